@@ -1,0 +1,10 @@
+pub mod Orders
+pub mod Truths
+pub mod Below
+pub mod Sums
+pub mod Lists
+pub mod Shifts
+pub mod Powers
+pub mod Quotients
+pub mod Whole
+pub mod Columns

@@ -1,0 +1,45 @@
+-- Truth values. Assumes nothing.
+use mathlib.Core.Path.{_≡_, refl, sym, ap₂}
+use mathlib.Core.Logic.{_⊎_, inl, inr}
+use mathlib.Core.Bool.{Bool, true, false, _&&_, _||_, false≢true}
+use Prim.Native.Nat.{ℕ, _≤_}
+use native.Mathlib.Omega.{arith}
+use Rattle.laws.specs.Below.{one}
+
+pub true-or-false : (b : Bool) → (b ≡ true) ⊎ (b ≡ false)
+true-or-false true = inl refl
+true-or-false false = inr refl
+
+pub never-true : (b : Bool) → (b ≡ true → ⊥) → b ≡ false
+never-true true h = absurd (h refl)
+never-true false h = refl
+
+pub and-left : (a b : Bool) → (a && b) ≡ true → a ≡ true
+and-left true b e = refl
+and-left false b e = e
+
+pub and-right : (a b : Bool) → (a && b) ≡ true → b ≡ true
+and-right true b e = e
+and-right false b e = absurd (false≢true e)
+
+pub and-both : {a b : Bool} → a ≡ true → b ≡ true → (a && b) ≡ true
+and-both p q = ap₂ _&&_ p q
+
+pub or-true : (a b : Bool) → (a || b) ≡ true → (a ≡ true) ⊎ (b ≡ true)
+or-true true b e = inl refl
+or-true false b e = inr e
+
+-- two truth values are equal if each is true where the other is
+pub both-true : (a b : Bool) → (a ≡ true → b ≡ true) → (b ≡ true → a ≡ true) → a ≡ b
+both-true true true f g = refl
+both-true true false f g = sym (f refl)
+both-true false true f g = g refl
+both-true false false f g = refl
+
+pub one-most : (b : Bool) → one b ≤ 1
+one-most true = omega arith
+one-most false = omega arith
+
+pub one-true : (b : Bool) → one b ≡ 1 → b ≡ true
+one-true true e = refl
+one-true false e = absurd (omega arith)

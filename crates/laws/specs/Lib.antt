@@ -1,0 +1,4 @@
+pub mod Choose
+pub mod Below
+pub mod Lists
+pub mod Columns

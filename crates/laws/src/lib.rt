@@ -1,0 +1,1 @@
+// No code: definitions in specs/ and laws in proofs/ that more than one crate needs.
