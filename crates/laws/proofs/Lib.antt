@@ -4,7 +4,8 @@ pub mod Below
 pub mod Sums
 pub mod Lists
 pub mod Shifts
-pub mod Powers
-pub mod Quotients
 pub mod Whole
 pub mod Columns
+pub mod Exponents
+pub mod Quotients
+pub mod Powers

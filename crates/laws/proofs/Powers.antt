@@ -1,12 +1,34 @@
--- Exponents of two. Assumes nothing.
-use mathlib.Core.Path.{_≡_}
-use Prim.Native.Nat.{ℕ, suc, _^_, _≤_, _<_}
-use native.Mathlib.Nat.{le-antisymm, le-of-suc-le-suc, lt-of-not-le, not-le-of-lt, le-trans}
-use lib.Pow.{pow-mono}
+-- Remainders by powers of two and other numbers, and a number that doubles. Assumes nothing.
+use mathlib.Core.Path.{_≡_, sym, ap, _∙_}
+use mathlib.Core.Logic.{⊎-elim}
+use Prim.Native.Nat.{ℕ, suc, _+_, _-_, _*_, _/_, _%_, _^_, _≤_, _<_}
+use native.Mathlib.Nat.{mul-add-mod-self-right, mul-le-mul-right, mod-add-div'}
+use native.Mathlib.Omega.{arith}
+use lib.Pow.{pow-add, pow-mono}
+use Rattle.laws.proofs.Orders.{lt-or-le}
 
-pub exponent-le : {a b q : ℕ} → 2 ^ a ≤ q → q < 2 ^ suc b → a ≤ b
-exponent-le {a} {b} h l = le-of-suc-le-suc (lt-of-not-le (λ (g : suc b ≤ a). not-le-of-lt l (le-trans (pow-mono g) h)))
+-- the low bits do not see a bit above them
+pub below-top : (len bits n : ℕ) → len ≤ bits → (2 ^ bits + n) % 2 ^ len ≡ n % 2 ^ len
+below-top len bits n l =
+    let e : bits ≡ bits - len + len = omega arith in
+    ap (λ (p : ℕ). (p + n) % 2 ^ len) (ap (λ (b : ℕ). 2 ^ b) e ∙ pow-add 2 (bits - len) len) ∙ mul-add-mod-self-right (2 ^ (bits - len)) (2 ^ len) n
 
--- a number lies between one power of two and the next
-pub exponent-once : {a b q : ℕ} → 2 ^ a ≤ q → q < 2 ^ suc a → 2 ^ b ≤ q → q < 2 ^ suc b → a ≡ b
-exponent-once h k l m = le-antisymm (exponent-le h m) (exponent-le l k)
+-- a half that is doubled at each turn
+pub half-most : (top bits half : ℕ) → half ≡ 2 ^ bits → bits ≤ top → half ≤ 2 ^ top
+half-most top bits half e l = let p : 2 ^ bits ≤ 2 ^ top = pow-mono {i = bits} {j = top} l in omega arith
+
+pub twice-half : (bits half : ℕ) → half ≡ 2 ^ bits → half * 2 ≡ 2 ^ (bits + 1)
+twice-half bits half e = ap (λ (h : ℕ). h * 2) e ∙ sym (pow-add 2 bits 1)
+
+-- of s numbers in a row no two have the same remainder
+pub same-part : (s n m : ℕ) → n ≤ m → m < n + s → m % s ≡ n % s → m ≡ n
+same-part s n m l h e =
+    let en : n % s + n / s * s ≡ n = mod-add-div' n s in
+    let em : m % s + m / s * s ≡ m = mod-add-div' m s in
+    ⊎-elim
+    (λ (q : n / s < m / s).
+    let more : suc (n / s) * s ≤ m / s * s = mul-le-mul-right s q in
+    absurd (omega arith))
+    (λ (q : m / s ≤ n / s).
+    let less : m / s * s ≤ n / s * s = mul-le-mul-right s q in
+    omega arith) (lt-or-le (n / s) (m / s))

@@ -10,7 +10,7 @@ use borrow.Author.Tests.{lt-ltb, le-ltb, ne-eqb}
 use lib.Dec.{ltb, eqb}
 use Rattle.laws.specs.Choose.{choose}
 use Rattle.laws.proofs.Orders.{lt-or-le}
-use Rattle.laws.proofs.Powers.{exponent-once, exponent-le}
+use Rattle.laws.proofs.Exponents.{exponent-once, exponent-le}
 use Rattle.laws.proofs.Quotients.{quotient-pos}
 use Rattle.numbers.specs.Numbers.{halvings, floorLog2, baseBitsAt}
 

@@ -1,0 +1,70 @@
+-- What an accepted book and table give to readers and writers. Assumes nothing.
+use mathlib.Core.Path.{_≡_, _∙_}
+use mathlib.Core.Bool.{true, not, _&&_}
+use mathlib.Core.List.{List, []}
+use Prim.Native.Nat.{ℕ, _/_, _%_, _≤_, _<_}
+use native.Mathlib.Omega.{arith}
+use borrow.Author.Tests.{eqb-true, not-false}
+use lib.Dec.{eqb}
+use lib.ListN.{length, getD}
+use Rattle.laws.proofs.Truths.{and-left, and-right}
+use Rattle.laws.proofs.Lists.{length-listOf, getD-listOf}
+use Rattle.refusals.specs.Outcome.{accepted}
+use Rattle.books.specs.Book.{oneSymbolEach, sized}
+use Rattle.books.specs.Table.{decoded, isTableOf, tableOf}
+use Rattle.books.specs.Calls.{judged, checkOf, checkTableOf}
+use Rattle.books.specs.Steps.{AllShaped, Hit, entryOf}
+use Rattle.books.specs.Uses.{Matches}
+use Rattle.books.proofs.Shaping.{all-shaped}
+use Rattle.books.proofs.Agreement.{which-at, decoded-is, table-at}
+use Rattle.books.proofs.Verdicts.{took, judged-accepted, sized-short, fit}
+
+-- a book that passes
+pub book-accepted : (book : List ℕ) → checkOf book ≡ accepted [] → (sized book ≡ true) × AllShaped book × (oneSymbolEach book ≡ true)
+unfolding checkOf
+book-accepted book e =
+    let t = took (not (sized book)) (judged book (oneSymbolEach book)) 2 0 [] e in
+    let j = judged-accepted book (oneSymbolEach book) (t .1) in
+    (not-false (sized book) (t .0), all-shaped book (j .0), j .1)
+
+-- a book that passes, and a table that holds what the book says
+pub matches : (book table : List ℕ) → length book ≤ 256 → AllShaped book → oneSymbolEach book ≡ true → length table ≡ 4096
+    → ((n : ℕ) → n < 4096 → getD table n 0 ≡ decoded book n) → Matches book table
+matches book table short s one size h = record { shaped = s; decodes = record { size = size; lengths = lengths; symbol = symbol }; matched = matched }
+  where
+    matched : (x n : ℕ) → x < length book → n < 4096 → Hit book x n → getD table n 0 ≡ entryOf book x
+    matched x n l ln k = h n ln ∙ decoded-is book one x n l ln k
+
+    lengths : (n : ℕ) → n < 4096 → (1 ≤ getD table n 0 / 256) × (getD table n 0 / 256 ≤ 12)
+    lengths n l =
+        let w = which-at book one n l in
+        let e = matched (w .0) n (w .1) l (w .2) in
+        let sh = s (w .0) (w .1) in
+        (omega (arith, sh .least, w .1), omega (arith, sh .most, w .1))
+
+    symbol : (n : ℕ) → n < 4096 → getD table n 0 % 256 < length book
+    symbol n l =
+        let w = which-at book one n l in
+        let e = matched (w .0) n (w .1) l (w .2) in
+        omega (arith, w .1)
+
+-- what an accepted check of a lent table gives
+pub table-accepted : (book table : List ℕ) → checkTableOf book table ≡ accepted [] → (sized book ≡ true) × Matches book table
+unfolding checkTableOf
+table-accepted book table e =
+    let t = took (not (fit book table)) (judged book (oneSymbolEach book && isTableOf book table)) 2 0 [] e in
+    let j = judged-accepted book (oneSymbolEach book && isTableOf book table) (t .1) in
+    let both = not-false (fit book table) (t .0) in
+    let right = and-left (sized book) (eqb (length table) 4096) both in (
+      right,
+      matches book table (sized-short book right) (all-shaped book (j .0)) (and-left (oneSymbolEach book) (isTableOf book table) (j .1))
+          (eqb-true (length table) 4096 (and-right (sized book) (eqb (length table) 4096) both))
+          (table-at book table (and-right (oneSymbolEach book) (isTableOf book table) (j .1))),
+    )
+
+-- a book that passes matches its own table
+pub own-table : (book : List ℕ) → checkOf book ≡ accepted [] → Matches book (tableOf book)
+unfolding tableOf
+own-table book e =
+    let b = book-accepted book e in
+    matches book (tableOf book) (sized-short book (b .0)) (b .1) (b .2) (length-listOf 4096 (decoded book)) (getD-listOf 4096 (decoded book))

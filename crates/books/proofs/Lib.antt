@@ -1,0 +1,16 @@
+-- Laws that belong to no one function.
+pub mod Saying
+pub mod Shaping
+pub mod Symbols
+pub mod Counting
+pub mod Agreement
+pub mod Repeating
+pub mod Filling
+pub mod Patterns
+pub mod Marking
+pub mod Spreading
+pub mod Verdicts
+pub mod Covered
+pub mod Accepted
+pub mod Picking
+pub mod Only

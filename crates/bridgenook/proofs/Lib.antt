@@ -1,0 +1,5 @@
+-- Laws that belong to no one function.
+pub mod Saying
+pub mod Copying
+pub mod Handing
+pub mod Only

@@ -1,0 +1,13 @@
+-- No second outcome satisfies what an exported call promises: one law for the calls that answer, one for those that write into lent memory besides
+-- (fill_table and the three that hand out a practice list). Assumes nothing.
+use mathlib.Core.Path.{_≡_, sym, _∙_}
+use mathlib.Core.List.{List}
+use Prim.Native.Nat.{ℕ}
+use Rattle.refusals.specs.Outcome.{Outcome}
+use Rattle.bridgenook.specs.Exports.{Says}
+
+pub one-answer : (o : Outcome) (r s : ℕ) (a b : List ℕ) → Says o r a → Says o s b → (r ≡ s) × (a ≡ b)
+one-answer o r s a b p q = (p .0 ∙ sym (q .0), p .1 ∙ sym (q .1))
+
+pub one-lent : (o : Outcome) (after : List ℕ) (r s : ℕ) (a b t u : List ℕ) → Says o r a × (t ≡ after) → Says o s b × (u ≡ after) → (r ≡ s) × (a ≡ b) × (t ≡ u)
+one-lent o after r s a b t u p q = let answers = one-answer o r s a b (p .0) (q .0) in (answers .0, answers .1, p .1 ∙ sym (q .1))

@@ -1,0 +1,67 @@
+//! The oracle: it feeds the same inputs to the proved library and to the Rust as given, in one
+//! process, and stops with status 1 at the first difference that is not an intended one.
+//!
+//! `oracle --books FOLDER --answers FILE [--sample FILE]`
+
+mod answer;
+mod books;
+mod cases;
+mod compare;
+mod ours;
+mod plain_reading;
+mod random;
+mod rust;
+mod sample;
+
+use std::env;
+use std::io::Result;
+use std::path::PathBuf;
+
+use crate::cases::RustAnswers;
+
+/// What the calls are tried on besides the chosen inputs.
+struct Effort {
+    random_numbers: u64,
+    random_book_sets: u64,
+}
+
+/// Debug is there for the Rust's own checks, which the chosen inputs meet; it is slow, and tries less.
+const EFFORT: Effort = if cfg!(debug_assertions) {
+    Effort {
+        random_numbers: 100_000,
+        random_book_sets: 4,
+    }
+} else {
+    Effort {
+        random_numbers: 3_000_000,
+        random_book_sets: 20,
+    }
+};
+
+/// The path that follows an option, if it is given.
+fn option(name: &str) -> Option<PathBuf> {
+    env::args()
+        .skip_while(|argument| argument != name)
+        .nth(1)
+        .map(PathBuf::from)
+}
+
+fn main() -> Result<()> {
+    let folder = option("--books").expect("--books FOLDER is given");
+    let answers = option("--answers").expect("--answers FILE is given");
+    rust::silence_caught_panics();
+
+    let sets = books::write_and_read(&folder, EFFORT.random_book_sets)?;
+    let mut rust_answers = RustAnswers::create(&answers)?;
+    compare::stand_in::check(&sets);
+    compare::numbers::compare(&mut rust_answers, EFFORT.random_numbers);
+    compare::bounds::compare(EFFORT.random_numbers);
+    compare::book_calls::compare(&sets);
+    compare::practice::compare();
+    rust_answers.finish()?;
+    if let Some(path) = option("--sample") {
+        sample::write(&path)?;
+    }
+    println!("0 differences");
+    Ok(())
+}

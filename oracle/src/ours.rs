@@ -1,0 +1,139 @@
+//! The calls of the static library, each as a safe function on slices.
+//!
+//! Nothing checks these declarations against the library, so they stand in one place and are few. A
+//! call fills its answer whole; it is handed one full of garbage, so that an unwritten part shows.
+
+use crate::answer::Answer;
+
+/// Place, bit, and the values.
+type Filled = [u64; 8];
+
+#[link(name = "bridgenook", kind = "static")]
+unsafe extern "C" {
+    fn bridgenook_rows(lg: u8, answer: *mut Filled) -> u32;
+    fn bridgenook_determine_flavor(lg: u8, coupons: u32, answer: *mut Filled) -> u32;
+    fn bridgenook_determine_correct_offset(lg: u8, coupons: u32, answer: *mut Filled) -> u32;
+    fn bridgenook_determine_pseudo_phase(lg: u8, coupons: u32, answer: *mut Filled) -> u32;
+    fn bridgenook_number_of_base_bits(lg: u8, pairs: u32, answer: *mut Filled) -> u32;
+    fn bridgenook_most_bits(lg: u8, pairs: u32, answer: *mut Filled) -> u32;
+    fn bridgenook_words_for(bits: u64, answer: *mut Filled) -> u32;
+    fn bridgenook_bits_in(words: u64, answer: *mut Filled) -> u32;
+    fn bridgenook_check_book(book: *const u16, symbols: usize, answer: *mut Filled) -> u32;
+    fn bridgenook_check_table(
+        book: *const u16,
+        symbols: usize,
+        table: *const u16,
+        entries: usize,
+        answer: *mut Filled,
+    ) -> u32;
+    fn bridgenook_fill_table(
+        book: *const u16,
+        symbols: usize,
+        table: *mut u16,
+        entries: usize,
+        answer: *mut Filled,
+    ) -> u32;
+    fn bridgenook_pick(set: *const u16, entries: usize, phase: u8, answer: *mut Filled) -> u32;
+    fn bridgenook_practice_pair_book(book: *mut u16, symbols: usize, answer: *mut Filled) -> u32;
+    fn bridgenook_practice_window_book(book: *mut u16, symbols: usize, answer: *mut Filled) -> u32;
+    fn bridgenook_practice_pair_table(table: *mut u16, entries: usize, answer: *mut Filled) -> u32;
+}
+
+const GARBAGE: u64 = 0xa5c3_96e1_0f78_5ad2;
+
+fn answered(call: impl FnOnce(*mut Filled) -> u32) -> Answer {
+    let mut filled = [GARBAGE; 8];
+    let number = call(&mut filled);
+    let [place, bit, values @ ..] = filled;
+    Answer {
+        number,
+        place,
+        bit,
+        values,
+    }
+}
+
+// Safety, here and below: numbers pass as themselves, and a slice as its pointer and its length; the
+// library reads and writes nothing outside of what it is lent.
+
+pub fn rows(lg: u8) -> Answer {
+    answered(|answer| unsafe { bridgenook_rows(lg, answer) })
+}
+
+pub fn determine_flavor(lg: u8, coupons: u32) -> Answer {
+    answered(|answer| unsafe { bridgenook_determine_flavor(lg, coupons, answer) })
+}
+
+pub fn determine_correct_offset(lg: u8, coupons: u32) -> Answer {
+    answered(|answer| unsafe { bridgenook_determine_correct_offset(lg, coupons, answer) })
+}
+
+pub fn determine_pseudo_phase(lg: u8, coupons: u32) -> Answer {
+    answered(|answer| unsafe { bridgenook_determine_pseudo_phase(lg, coupons, answer) })
+}
+
+pub fn number_of_base_bits(lg: u8, pairs: u32) -> Answer {
+    answered(|answer| unsafe { bridgenook_number_of_base_bits(lg, pairs, answer) })
+}
+
+pub fn most_bits(lg: u8, pairs: u32) -> Answer {
+    answered(|answer| unsafe { bridgenook_most_bits(lg, pairs, answer) })
+}
+
+pub fn words_for(bits: u64) -> Answer {
+    answered(|answer| unsafe { bridgenook_words_for(bits, answer) })
+}
+
+pub fn bits_in(words: u64) -> Answer {
+    answered(|answer| unsafe { bridgenook_bits_in(words, answer) })
+}
+
+pub fn check_book(book: &[u16]) -> Answer {
+    answered(|answer| unsafe { bridgenook_check_book(book.as_ptr(), book.len(), answer) })
+}
+
+pub fn check_table(book: &[u16], table: &[u16]) -> Answer {
+    answered(|answer| unsafe {
+        bridgenook_check_table(
+            book.as_ptr(),
+            book.len(),
+            table.as_ptr(),
+            table.len(),
+            answer,
+        )
+    })
+}
+
+pub fn fill_table(book: &[u16], table: &mut [u16]) -> Answer {
+    answered(|answer| unsafe {
+        bridgenook_fill_table(
+            book.as_ptr(),
+            book.len(),
+            table.as_mut_ptr(),
+            table.len(),
+            answer,
+        )
+    })
+}
+
+pub fn pick(set: &[u16], phase: u8) -> Answer {
+    answered(|answer| unsafe { bridgenook_pick(set.as_ptr(), set.len(), phase, answer) })
+}
+
+pub fn practice_pair_book(book: &mut [u16]) -> Answer {
+    answered(|answer| unsafe {
+        bridgenook_practice_pair_book(book.as_mut_ptr(), book.len(), answer)
+    })
+}
+
+pub fn practice_window_book(book: &mut [u16]) -> Answer {
+    answered(|answer| unsafe {
+        bridgenook_practice_window_book(book.as_mut_ptr(), book.len(), answer)
+    })
+}
+
+pub fn practice_pair_table(table: &mut [u16]) -> Answer {
+    answered(|answer| unsafe {
+        bridgenook_practice_pair_table(table.as_mut_ptr(), table.len(), answer)
+    })
+}
