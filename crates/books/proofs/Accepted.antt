@@ -4,8 +4,7 @@ use mathlib.Core.Bool.{true, not, _&&_}
 use mathlib.Core.List.{List, []}
 use Prim.Native.Nat.{ℕ, _/_, _%_, _≤_, _<_}
 use native.Mathlib.Omega.{arith}
-use borrow.Author.Tests.{eqb-true, not-false}
-use lib.Dec.{eqb}
+use borrow.Author.Tests.{not-false}
 use lib.ListN.{length, getD}
 use Rattle.laws.proofs.Truths.{and-left, and-right}
 use Rattle.laws.proofs.Lists.{length-listOf, getD-listOf}
@@ -17,7 +16,7 @@ use Rattle.books.specs.Steps.{AllShaped, Hit, entryOf}
 use Rattle.books.specs.Uses.{Matches}
 use Rattle.books.proofs.Shaping.{all-shaped}
 use Rattle.books.proofs.Agreement.{which-at, decoded-is, table-at}
-use Rattle.books.proofs.Verdicts.{took, judged-accepted, sized-short, fit}
+use Rattle.books.proofs.Verdicts.{took, judged-accepted, sized-short, fit, fit-both}
 
 -- a book that passes
 pub book-accepted : (book : List ℕ) → checkOf book ≡ accepted [] → (sized book ≡ true) × AllShaped book × (oneSymbolEach book ≡ true)
@@ -54,11 +53,9 @@ unfolding checkTableOf
 table-accepted book table e =
     let t = took (not (fit book table)) (judged book (oneSymbolEach book && isTableOf book table)) 2 0 [] e in
     let j = judged-accepted book (oneSymbolEach book && isTableOf book table) (t .1) in
-    let both = not-false (fit book table) (t .0) in
-    let right = and-left (sized book) (eqb (length table) 4096) both in (
-      right,
-      matches book table (sized-short book right) (all-shaped book (j .0)) (and-left (oneSymbolEach book) (isTableOf book table) (j .1))
-          (eqb-true (length table) 4096 (and-right (sized book) (eqb (length table) 4096) both))
+    let f = fit-both book table (not-false (fit book table) (t .0)) in (
+      f .0,
+      matches book table (f .1) (all-shaped book (j .0)) (and-left (oneSymbolEach book) (isTableOf book table) (j .1)) (f .2)
           (table-at book table (and-right (oneSymbolEach book) (isTableOf book table) (j .1))),
     )
 

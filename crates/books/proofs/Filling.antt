@@ -9,7 +9,7 @@ use native.Mathlib.Omega.{arith}
 use lib.ListN.{length, getD, set, length-set}
 use lib.Pow.{pow-pos, pow-mono}
 use lib.Seq.{getD-set-same, getD-set-other}
-use Rattle.laws.proofs.Orders.{lt-or-le, same-or-not}
+use Rattle.laws.proofs.Orders.{lt-or-le}
 use Rattle.laws.proofs.Powers.{same-part}
 use Rattle.books.specs.Book.{lengthIn, codewordIn, oneSymbolEach}
 use Rattle.books.specs.Steps.{Shape, Hit, entryOf, Agreed, Entered}

@@ -1,16 +1,16 @@
 -- Marks of symbols: a symbol's numbers, among the numbers of as many bits. Assumes nothing.
-use mathlib.Core.Path.{_≡_, refl, sym, ap, ap₂, _∙_, subst}
+use mathlib.Core.Path.{_≡_, sym, ap, ap₂, _∙_, subst}
 use mathlib.Core.Logic.{⊎-elim}
 use mathlib.Core.Bool.{Bool, true, false, _&&_, _||_, false≢true}
 use mathlib.Core.List.{List}
-use Prim.Native.Nat.{ℕ, _+_, _-_, _*_, _/_, _%_, _^_, _≤_, _<_}
+use Prim.Native.Nat.{ℕ, _+_, _-_, _/_, _%_, _^_, _≤_, _<_}
 use native.Mathlib.Nat.{mod-eq-of-lt}
 use native.Mathlib.Omega.{arith}
 use borrow.Author.Tests.{eqb-true, eq-eqb, ne-eqb}
 use lib.Bits.{bitOr}
 use lib.Dec.{eqb}
 use lib.ListN.{length, getD, set, replicate, length-replicate, getD-replicate, List·getD-eq-default}
-use lib.Pow.{pow-add, pow-pos, pow-mono}
+use lib.Pow.{pow-add, pow-mono}
 use lib.Seq.{getD-set-same, getD-set-other}
 use Rattle.laws.specs.Columns.{has}
 use Rattle.laws.proofs.Orders.{lt-or-le, same-or-not}
@@ -34,7 +34,8 @@ pub unmarked : (at : ℕ) → marked (replicate 128 0) at ≡ false
 unmarked at =
     ap (λ (w : ℕ). has w (at % 64))
     (⊎-elim (λ (l : at / 64 < 128). getD-replicate {A = ℕ} 128 (at / 64) 0 0 l)
-    (λ (l : 128 ≤ at / 64). List·getD-eq-default (replicate 128 0) 0 (let q : length (replicate {A = ℕ} 128 0) ≤ at / 64 = omega (arith, length-replicate {A = ℕ} 128 0) in q))
+    (λ (l : 128 ≤ at / 64).
+    List·getD-eq-default (replicate 128 0) 0 (let q : length (replicate {A = ℕ} 128 0) ≤ at / 64 = omega (arith, length-replicate {A = ℕ} 128 0) in q))
     (lt-or-le (at / 64) 128)) ∙ has-zero (at % 64)
 
 module _ (marks : List ℕ) (len codeword : ℕ) where
@@ -150,7 +151,8 @@ marking-turn book marks marks′ x entry e m most v = record { given = given; ow
     now : Marked marks marks′ len code
     now = subst (λ (z : ℕ). Marked marks marks′ (lengthIn z) (codewordIn z)) e m
 
-    given : (y n : ℕ) → y < x + 1 → n < 2 ^ (6 + (lengthIn (getD book y 0) - 6)) → Hit book y n → marked marks′ (markOf (lengthIn (getD book y 0) - 6) n) ≡ true
+    given : (y n : ℕ) → y < x + 1 → n < 2 ^ (6 + (lengthIn (getD book y 0) - 6)) → Hit book y n
+        → marked marks′ (markOf (lengthIn (getD book y 0) - 6) n) ≡ true
     given y n ly ln h =
         let d : ℕ = lengthIn (getD book y 0) - 6 in
         now d n (omega (arith, most y ly)) ln
@@ -161,7 +163,8 @@ marking-turn book marks marks′ x entry e m most v = record { given = given; ow
         (and-both (eq-eqb d (len - 6) (ap (λ (w : ℕ). lengthIn (getD book w 0) - 6) z)) (eq-eqb (n % 2 ^ len) code (subst (λ (w : ℕ). Hit book w n) z h))))
         (lt-or-le y x)
 
-    owned : (d n : ℕ) → d ≤ 6 → n < 2 ^ (6 + d) → marked marks′ (markOf d n) ≡ true → (y : ℕ) × (y < x + 1) × (lengthIn (getD book y 0) ≤ 6 + d) × Hit book y n
+    owned : (d n : ℕ) → d ≤ 6 → n < 2 ^ (6 + d) → marked marks′ (markOf d n) ≡ true
+        → (y : ℕ) × (y < x + 1) × (lengthIn (getD book y 0) ≤ 6 + d) × Hit book y n
     owned d n ld ln t =
         ⊎-elim
         (λ (q : marked marks (markOf d n) ≡ true).

@@ -1,7 +1,7 @@
 -- Marks of few bits go to the numbers of more bits that end in them. Assumes nothing.
 use mathlib.Core.Path.{_≡_, refl, sym, ap, ap₂, _∙_, subst}
 use mathlib.Core.Logic.{⊎-elim}
-use mathlib.Core.Bool.{Bool, true, false, _||_}
+use mathlib.Core.Bool.{true, _||_}
 use mathlib.Core.List.{List}
 use Prim.Native.Nat.{ℕ, zero, suc, _+_, _-_, _*_, _/_, _%_, _^_, _≤_, _<_}
 use native.Mathlib.Nat.{mod-eq-of-lt, mod-lt, pow-suc}
@@ -9,7 +9,7 @@ use native.Mathlib.Numerals.{add-one}
 use native.Mathlib.Omega.{arith}
 use borrow.Author.Tests.{lt-ltb}
 use lib.Bits.{bitOr}
-use lib.ListN.{length, getD, set, length-set}
+use lib.ListN.{length, getD, set}
 use lib.Pow.{pow-add, pow-pos, pow-mono, mod-mod-pow, ones-lt}
 use lib.Seq.{getD-set-same, getD-set-other}
 use Rattle.laws.specs.Columns.{has}
@@ -17,7 +17,7 @@ use Rattle.laws.proofs.Orders.{lt-or-le}
 use Rattle.laws.proofs.Truths.{or-true, or-left, or-right}
 use Rattle.laws.proofs.Columns.{has-or, has-ones, word-ext}
 use Rattle.laws.proofs.Powers.{below-top}
-use Rattle.books.specs.Book.{lengthIn, codewordIn, oneSymbolEach}
+use Rattle.books.specs.Book.{lengthIn, oneSymbolEach}
 use Rattle.books.specs.Steps.{AllShaped, taken, Hit, marked, markOf, Marking, reached, Spread, Joined, Widened, Full}
 use Rattle.books.proofs.Symbols.{some}
 use Rattle.books.proofs.Agreement.{which-at}
@@ -70,37 +70,37 @@ module _ (marks marks′ : List ℕ) (b : ℕ) (v : Widened marks marks′ (2 ^ 
   size : 2 ^ (6 + b) ≡ 64 * half
   size = pow-add 2 6 b
 
-  own : ℕ → Bool
-  own n = marked marks (markOf (suc b) n)
+  -- a number of one more bit has its own mark, or its low bits have one
+  abbrev Gets : ℕ → Type 0
+  Gets n = marked marks′ (markOf (suc b) n) ≡ (marked marks (markOf (suc b) n) || marked marks (markOf b (n % 2 ^ (6 + b))))
 
-  -- the word of a number of one more bit, and what went into it
-  into : (n m : ℕ) → m < 2 ^ (6 + b) → n % 64 ≡ m % 64 → getD marks′ (2 ^ suc b + n / 64) 0 ≡ bitOr (getD marks (2 ^ suc b + n / 64) 0) (getD marks (half + m / 64) 0)
-      → n % 2 ^ (6 + b) ≡ m → marked marks′ (markOf (suc b) n) ≡ (marked marks (markOf (suc b) n) || marked marks (markOf b (n % 2 ^ (6 + b))))
-  into n m l c w e =
+  -- that is so where the word of the low bits m went into the number's word
+  gets : (n m : ℕ) → n % 2 ^ (6 + b) ≡ m → n % 64 ≡ m % 64
+      → getD marks′ (2 ^ suc b + n / 64) 0 ≡ bitOr (getD marks (2 ^ suc b + n / 64) 0) (getD marks (half + m / 64) 0) → Gets n
+  gets n m e c w =
       marked-at marks′ (suc b) n ∙ ap (λ (x : ℕ). has x (n % 64)) w
       ∙ has-or (getD marks (2 ^ suc b + n / 64) 0) (getD marks (half + m / 64) 0) (n % 64)
       ∙ ap₂ _||_ (sym (marked-at marks (suc b) n))
       (ap (λ (x : ℕ). has (getD marks (half + m / 64) 0) x) c ∙ sym (marked-at marks b m) ∙ ap (λ (x : ℕ). marked marks (markOf b x)) (sym e))
 
-  widened-mark : (n : ℕ) → n < 2 ^ (6 + suc b) → marked marks′ (markOf (suc b) n) ≡ (marked marks (markOf (suc b) n) || marked marks (markOf b (n % 2 ^ (6 + b))))
+  widened-mark : (n : ℕ) → n < 2 ^ (6 + suc b) → Gets n
   widened-mark n l = ⊎-elim low high (lt-or-le n (2 ^ (6 + b)))
     where
-      low : n < 2 ^ (6 + b) → marked marks′ (markOf (suc b) n) ≡ (marked marks (markOf (suc b) n) || marked marks (markOf b (n % 2 ^ (6 + b))))
+      low : n < 2 ^ (6 + b) → Gets n
       low q =
           let at : half * 2 + n / 64 ≡ 2 ^ suc b + n / 64 = omega (arith, twice) in
-          into n n q refl
-          (subst (λ (w : ℕ). getD marks′ w 0 ≡ bitOr (getD marks w 0) (getD marks (half + n / 64) 0)) at (v .first (n / 64) (omega (arith, size)))) (mod-eq-of-lt q)
+          gets n n (mod-eq-of-lt q) refl
+          (subst (λ (w : ℕ). getD marks′ w 0 ≡ bitOr (getD marks w 0) (getD marks (half + n / 64) 0)) at (v .first (n / 64) (omega (arith, size))))
 
-      high : 2 ^ (6 + b) ≤ n → marked marks′ (markOf (suc b) n) ≡ (marked marks (markOf (suc b) n) || marked marks (markOf b (n % 2 ^ (6 + b))))
+      high : 2 ^ (6 + b) ≤ n → Gets n
       high q =
-          let m : ℕ = n - 2 ^ (6 + b) in
-          let lm : n - 2 ^ (6 + b) < 2 ^ (6 + b) = omega (arith, pow-add 2 6 (suc b), twice, size) in
-          let at : half * 3 + (n - 2 ^ (6 + b)) / 64 ≡ 2 ^ suc b + n / 64 = omega (arith, twice, size) in
           let e : 2 ^ (6 + b) + (n - 2 ^ (6 + b)) ≡ n = omega arith in
-          into n (n - 2 ^ (6 + b)) lm (omega (arith, size))
+          let few : n - 2 ^ (6 + b) < 2 ^ (6 + b) = omega (arith, pow-add 2 6 (suc b), twice, size) in
+          let at : half * 3 + (n - 2 ^ (6 + b)) / 64 ≡ 2 ^ suc b + n / 64 = omega (arith, twice, size) in
+          gets n (n - 2 ^ (6 + b))
+          (ap (λ (k : ℕ). k % 2 ^ (6 + b)) (sym e) ∙ below-top (6 + b) (6 + b) (n - 2 ^ (6 + b)) (omega arith) ∙ mod-eq-of-lt few) (omega (arith, size))
           (subst (λ (w : ℕ). getD marks′ w 0 ≡ bitOr (getD marks w 0) (getD marks (half + (n - 2 ^ (6 + b)) / 64) 0)) at
           (v .second ((n - 2 ^ (6 + b)) / 64) (omega (arith, size))))
-          (ap (λ (k : ℕ). k % 2 ^ (6 + b)) (sym e) ∙ below-top (6 + b) (6 + b) (n - 2 ^ (6 + b)) (omega arith) ∙ mod-eq-of-lt lm)
 
   -- the other numbers keep their marks
   same-word : (d n : ℕ) → getD marks′ (2 ^ d + n / 64) 0 ≡ getD marks (2 ^ d + n / 64) 0 → marked marks′ (markOf d n) ≡ marked marks (markOf d n)
@@ -129,7 +129,10 @@ spreading-start marks = record { done = done; left = λ d n l. refl }
 pub spreading-turn : (marks₀ marks marks′ : List ℕ) (b half : ℕ) → half ≡ 2 ^ b → Widened marks marks′ half → Spreading marks₀ marks b
     → Spreading marks₀ marks′ (b + 1)
 spreading-turn marks₀ marks marks′ b half e w v =
-    subst (Spreading marks₀ marks′) (sym (add-one b)) record { done = done; left = λ (d n : ℕ) (l : suc b < d). many-kept marks marks′ b wide d n l ∙ v .left d n (omega arith) }
+    subst (Spreading marks₀ marks′) (sym (add-one b)) record {
+      done = done;
+      left = λ (d n : ℕ) (l : suc b < d). many-kept marks marks′ b wide d n l ∙ v .left d n (omega arith);
+    }
   where
     wide : Widened marks marks′ (2 ^ b)
     wide = subst (Widened marks marks′) e w

@@ -10,7 +10,7 @@ use lib.Dec.{eqb, ltb}
 use lib.ListN.{length}
 use Rattle.laws.specs.Choose.{choose}
 use Rattle.laws.proofs.Orders.{le-or-lt}
-use Rattle.laws.proofs.Truths.{true-or-false}
+use Rattle.laws.proofs.Truths.{and-left, and-right, true-or-false}
 use Rattle.refusals.specs.Outcome.{Outcome, accepted, refused, ifAccepted}
 use Rattle.refusals.specs.Told.{told}
 use Rattle.refusals.specs.declared.Refusal.{Refusal}
@@ -42,7 +42,8 @@ first-within (entry ∷ book) =
     omega (arith, q)) (true-or-false (shaped entry))
 
 -- where the last test of one chain holds only if that of another does, a refusal by the other is one by the first
-less : (b one more : Bool) (a : Outcome) (why : Refusal) → (b ≡ false → more ≡ true → one ≡ true) → told why ≡ choose b a (choose (not one) (refused 3 0) (accepted []))
+less : (b one more : Bool) (a : Outcome) (why : Refusal) → (b ≡ false → more ≡ true → one ≡ true)
+    → told why ≡ choose b a (choose (not one) (refused 3 0) (accepted []))
     → told why ≡ choose b a (choose (not more) (refused 3 0) (accepted []))
 less true one more a why h e = e
 less false false true a why h e = absurd (false≢true (h refl refl))
@@ -55,26 +56,27 @@ module _ (book : List ℕ) where
 
   pub judged-accepted : (rest : Bool) → judged book rest ≡ accepted [] → (firstMisshapen book ≡ length book) × (rest ≡ true)
   judged-accepted rest e =
-      let t = took (ltb (firstMisshapen book) (length book)) (choose (not rest) (refused 3 0) (accepted [])) 3 (firstMisshapen book) [] e in
+      let t = took (ltb (firstMisshapen book) (length book)) (choose (not rest) (refused 3 0) (accepted [])) 3 _ [] e in
       (none-misshapen (t .0), not-false rest (took (not rest) (accepted []) 3 0 [] (t .1) .0))
 
   pub misshapen-judged : (x : ℕ) (rest : Bool) → firstMisshapen book ≡ x → x < length book → judged book rest ≡ refused 3 x
-  misshapen-judged x rest e l =
-      let l′ : firstMisshapen book < length book = omega arith in
-      ap (λ (b : Bool). choose b (refused 3 (firstMisshapen book)) (choose (not rest) (refused 3 0) (accepted []))) (lt-ltb (firstMisshapen book) (length book) l′)
-      ∙ ap (refused 3) e
+  misshapen-judged x rest e l = simp (lt-ltb (firstMisshapen book) (length book) (within e l)) (ap (refused 3) e)
+    where
+      within : firstMisshapen book ≡ x → x < length book → firstMisshapen book < length book
+      within e l = omega arith
 
   -- no symbol is of wrong shape: the rest decides
   pub shaped-judged : (rest t : Bool) → firstMisshapen book ≡ length book → rest ≡ t → judged book rest ≡ choose (not t) (refused 3 0) (accepted [])
   shaped-judged rest t e r =
-      ap (λ (b : Bool). choose b (refused 3 (firstMisshapen book)) (choose (not rest) (refused 3 0) (accepted [])))
-      (le-ltb (firstMisshapen book) (length book) (let l : length book ≤ firstMisshapen book = omega arith in l))
-      ∙ ap (λ (b : Bool). choose (not b) (refused 3 0) (accepted [])) r
+      simp (le-ltb (firstMisshapen book) (length book) (within e)) (ap (λ (b : Bool). choose (not b) (refused 3 0) (accepted [])) r)
+    where
+      within : firstMisshapen book ≡ length book → length book ≤ firstMisshapen book
+      within e = omega arith
 
   -- a refusal by the shapes or the sum
   pub first-refused : (rest : Bool) (why : Refusal) → (rest ≡ true → oneSymbolEach book ≡ true) → told why ≡ firstJudged book → told why ≡ judged book rest
   first-refused rest why h =
-      less (ltb (firstMisshapen book) (length book)) (eqb (taken book) 4096) rest (refused 3 (firstMisshapen book)) why
+      less (ltb (firstMisshapen book) (length book)) (eqb (taken book) 4096) rest _ why
       (λ e t. eq-eqb (taken book) 4096 (full book (h t) (all-shaped book (none-misshapen e))))
 
   pub first-accepted : accepted [] ≡ firstJudged book → (firstMisshapen book ≡ length book) × (taken book ≡ 4096)
@@ -97,6 +99,11 @@ module _ (book table : List ℕ) where
   abbrev pub fit : Bool
   fit = sized book && eqb (length table) 4096
 
+  pub fit-both : fit ≡ true → (sized book ≡ true) × (length book ≤ 256) × (length table ≡ 4096)
+  fit-both e =
+      let s = and-left (sized book) (eqb (length table) 4096) e in
+      (s, sized-short book s, eqb-true (length table) 4096 (and-right (sized book) (eqb (length table) 4096) e))
+
   pub check-fit : (t : Bool) → fit ≡ t → checkTableOf book table ≡ choose (not t) (refused 2 0) (judged book (oneSymbolEach book && isTableOf book table))
   unfolding checkTableOf
   check-fit t e = ap (λ (b : Bool). choose (not b) (refused 2 0) (judged book (oneSymbolEach book && isTableOf book table))) e
@@ -109,5 +116,6 @@ module _ (book table : List ℕ) where
   pub fill-refused : (why : Refusal) → told why ≡ fillOf book table → (told why ≡ fillOf book table) × (table ≡ filled book table)
   fill-refused why e = (e, sym (kept why (tableOf book) table) ∙ ap (λ (a : Outcome). ifAccepted a (tableOf book) table) e)
 
-  pub fill-accepted : (table′ : List ℕ) → accepted [] ≡ fillOf book table → table′ ≡ tableOf book → (accepted [] ≡ fillOf book table) × (table′ ≡ filled book table)
+  pub fill-accepted : (table′ : List ℕ) → accepted [] ≡ fillOf book table → table′ ≡ tableOf book
+      → (accepted [] ≡ fillOf book table) × (table′ ≡ filled book table)
   fill-accepted table′ e t = (e, t ∙ ap (λ (a : Outcome). ifAccepted a (tableOf book) table) e)

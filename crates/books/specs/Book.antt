@@ -1,5 +1,5 @@
 -- A book: for each symbol an entry, length * 4096 + codeword. And when a book passes. Assumes nothing.
-use Prim.Native.Nat.{ℕ, zero, suc, _+_, _*_, _/_, _%_, _^_}
+use Prim.Native.Nat.{ℕ, suc, _+_, _/_, _%_, _^_}
 use mathlib.Core.Bool.{Bool, _&&_, _||_}
 use mathlib.Core.List.{List, [], _∷_}
 use lib.Dec.{leb, ltb, eqb}

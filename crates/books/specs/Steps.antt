@@ -99,7 +99,8 @@ Marked marks marks′ len codeword =
 pub record Marking (book marks : List ℕ) (x : ℕ) : Type 0 where
   pub given : (y n : ℕ) → y < x → n < 2 ^ (6 + (lengthIn (getD book y 0) - 6)) → Hit book y n
       → marked marks (markOf (lengthIn (getD book y 0) - 6) n) ≡ true
-  pub owned : (d n : ℕ) → d ≤ 6 → n < 2 ^ (6 + d) → marked marks (markOf d n) ≡ true → (y : ℕ) × (y < x) × (lengthIn (getD book y 0) ≤ 6 + d) × Hit book y n
+  pub owned : (d n : ℕ) → d ≤ 6 → n < 2 ^ (6 + d) → marked marks (markOf d n) ≡ true
+      → (y : ℕ) × (y < x) × (lengthIn (getD book y 0) ≤ 6 + d) × Hit book y n
 
 -- a number of one more bit has a mark of its own, or its low bits have one
 abbrev pub reached : List ℕ → ℕ → ℕ → Bool

@@ -1,8 +1,8 @@
 // A book's decoding table: is a lent table the book's, and the fill of one.
 ghost use mathlib.Core.Path.{_≡_};
 ghost use mathlib.Core.Bool.{true, _&&_};
-ghost use Prim.Native.Nat.{_+_, _*_, _^_, _≤_, _<_};
-ghost use lib.ListN.{length, getD};
+ghost use Prim.Native.Nat.{_+_, _*_, _≤_, _<_};
+ghost use lib.ListN.{length};
 ghost use Rattle.laws.specs.Below.{one};
 ghost use Rattle.books.specs.Book.{lengthIn, oneSymbolEach};
 ghost use Rattle.books.specs.Table.{tableOf, isTableOf};
@@ -17,13 +17,15 @@ fn entry_of(entry: usize, x: usize) -> u16
     (entry / 4096 * 256 + x) as u16
 }
 
+// 1 for an entry below the limit that is not repeated.
 fn one_if_broken(a: u16, b: u16, limit: u16) -> u16
-    ensures { λ r. ⌜ r ≡ one (breaks a b limit) ⌝ }
+    ensures { λ r. ⌜ (r ≡ one (breaks a b limit)) × (r ≤ 1) ⌝ }
 {
     if a < limit && b != a { 1 } else { 0 }
 }
 
-// A symbol of few bits has the same numbers with one more bit set. The count leaves no way out of the loop, so that it runs many at a time.
+// The next bit decides nothing for an entry below the limit: it stands in the second half too. What breaks that is counted, with no way out of
+// the loop, so that it runs many at a time.
 fn level_repeats(table: &[u16], half: usize, limit: u16) -> bool
     requires { ⌜ (length (now table) ≡ 4096) × (half ≤ 2048) ⌝ }
     ensures { λ r. ⌜ Says (Repeats (now (table .entry)) half limit) r ⌝ }
@@ -37,6 +39,7 @@ fn level_repeats(table: &[u16], half: usize, limit: u16) -> bool
     count == 0
 }
 
+// An entry of at most so many bits, length * 256 + symbol, is below (bits + 1) * 256.
 fn repeats(table: &[u16]) -> bool
     requires { ⌜ length (now table) ≡ 4096 ⌝ }
     ensures { λ r. ⌜ Says (AllRepeat (now (table .entry))) r ⌝ }
@@ -71,7 +74,8 @@ fn stands(book: &[u16], table: &[u16]) -> bool
     true
 }
 
-// For a book whose codewords take 4,096 numbers: does it pass, and is the table its own? The table is judged by itself, none is built.
+// For a book whose codewords take 4,096 numbers: does it pass, and is the table its own? The lent table is judged by itself, so none is built:
+// what stands and repeats holds each symbol at all its numbers.
 pub fn is_table(book: &[u16], table: &[u16]) -> bool
     requires { ⌜ (length (now book) ≤ 256) × AllShaped (now book) × (taken (now book) ≡ 4096) × (length (now table) ≡ 4096) ⌝ }
     ensures { λ r. ⌜ r ≡ (oneSymbolEach (now (book .entry)) && isTableOf (now (book .entry)) (now (table .entry))) ⌝ }

@@ -49,6 +49,7 @@ fn right_lengths(n: usize, m: usize) -> bool
     m == 4096
 }
 
+// Refusal 3 has a place only for a wrong shape.
 fn verdict(passes: bool) -> CheckAnswer
     ensures { λ r. ⌜ toldCheck r ≡ choose (not passes) (refused 3 0) (accepted []) ⌝ }
 {
@@ -58,7 +59,7 @@ fn verdict(passes: bool) -> CheckAnswer
     CheckAnswer::Refused(Refusal::WrongBook { place: 0 })
 }
 
-// The shapes, and whether the codewords take 4,096 numbers. Past this the rest is one question.
+// The shapes first, then whether the codewords take 4,096 numbers: what is tried after that rests on both.
 fn judge_shapes(book: &[u16]) -> CheckAnswer
     requires { ⌜ length (now book) ≤ 256 ⌝ }
     ensures { λ r. ⌜ toldCheck r ≡ firstJudged (now (book .entry)) ⌝ }

@@ -10,13 +10,13 @@ ghost use Rattle.books.specs.Book.{oneSymbolEach};
 ghost use Rattle.books.specs.Steps.{AllShaped, taken, Says, marked, Marked, Marking, Joined, Widened, Spread, Full};
 use super::shapes::wide;
 
-// The numbers below 64 whose low bits are the codeword.
-fn pattern(length: usize, codeword: usize) -> u64
-    requires { ⌜ (length ≤ 6) × (codeword < 2 ^ length) ⌝ }
-    ensures { λ r. ⌜ ((c : ℕ) → c < 64 → has r c ≡ eqb (c % 2 ^ length) codeword) ⌝ }
+// The numbers below 64 whose low bits are the codeword, by doubling.
+fn pattern(len: usize, codeword: usize) -> u64
+    requires { ⌜ (len ≤ 6) × (codeword < 2 ^ len) ⌝ }
+    ensures { λ r. ⌜ ((c : ℕ) → c < 64 → has r c ≡ eqb (c % 2 ^ len) codeword) ⌝ }
 {
     let mut word = 1u64 << codeword;
-    let mut bits = length;
+    let mut bits = len;
     while bits < 6 {
         word |= word << (1usize << bits);
         bits += 1;
@@ -24,6 +24,7 @@ fn pattern(length: usize, codeword: usize) -> u64
     word
 }
 
+// A short codeword is marked at all its numbers of six bits, as one word; a long one at itself.
 fn mark(marks: &mut [u64], len: usize, codeword: usize)
     requires { ⌜ (length (now marks) ≡ 128) × (len ≤ 12) × (codeword < 2 ^ len) ⌝ }
     ensures { λ _. ⌜ Marked (now (marks .entry)) (now (marks .exit)) len codeword ⌝ }
@@ -37,7 +38,7 @@ fn mark(marks: &mut [u64], len: usize, codeword: usize)
 }
 
 fn mark_all(book: &[u16], marks: &mut [u64])
-    requires { ⌜ (length (now book) ≤ 256) × AllShaped (now book) × (length (now marks) ≡ 128) × ((at : ℕ) → marked (now marks) at ≡ false) ⌝ }
+    requires { ⌜ AllShaped (now book) × (length (now marks) ≡ 128) × ((at : ℕ) → marked (now marks) at ≡ false) ⌝ }
     ensures { λ _. ⌜ Marking (now (book .entry)) (now (marks .exit)) (length (now (book .entry))) ⌝ }
 {
     let mut x = 0;
@@ -69,6 +70,7 @@ fn widen(marks: &mut [u64], half: usize)
     join(marks, half, half * 3, half);
 }
 
+// From six bits to twelve: in the end a number is marked if any symbol has it.
 fn spread(marks: &mut [u64])
     requires { ⌜ length (now marks) ≡ 128 ⌝ }
     ensures { λ _. ⌜ Spread (now (marks .entry)) (now (marks .exit)) ⌝ }
@@ -98,7 +100,7 @@ fn all_marked(marks: &[u64]) -> bool
 
 // For a book whose codewords take 4,096 numbers: does it pass? It does if no number is left out.
 pub fn covers(book: &[u16]) -> bool
-    requires { ⌜ (length (now book) ≤ 256) × AllShaped (now book) × (taken (now book) ≡ 4096) ⌝ }
+    requires { ⌜ AllShaped (now book) × (taken (now book) ≡ 4096) ⌝ }
     ensures { λ r. ⌜ r ≡ oneSymbolEach (now (book .entry)) ⌝ }
 {
     let mut marks = [0u64; 128];

@@ -1,10 +1,8 @@
 -- Sums over the numbers below a bound. Assumes nothing.
 use mathlib.Core.Path.{_≡_, refl, sym, ap, ap₂, _∙_, subst}
 use mathlib.Core.Logic.{⊎-elim}
-use mathlib.Core.Bool.{Bool}
 use Prim.Native.Nat.{ℕ, zero, suc, _+_, _*_, _%_, _≤_, _<_}
 use native.Mathlib.Nat.{add-zero, add-suc}
-use native.Mathlib.Numerals.{add-one}
 use native.Mathlib.Omega.{arith}
 use borrow.Author.Tests.{eq-eqb, ne-eqb}
 use lib.Dec.{eqb}
@@ -16,14 +14,6 @@ use Rattle.laws.proofs.Orders.{lt-or-le}
 unfoldable pub sumBelow : ℕ → (ℕ → ℕ) → ℕ
 sumBelow zero f = 0
 sumBelow (suc n) f = sumBelow n f + f n
-
-pub sum-next : (n : ℕ) (f : ℕ → ℕ) → sumBelow (n + 1) f ≡ sumBelow n f + f n
-unfolding sumBelow
-sum-next n f = ap (λ (m : ℕ). sumBelow m f) (add-one n)
-
-pub sum-none : (f : ℕ → ℕ) → sumBelow 0 f ≡ 0
-unfolding sumBelow
-sum-none f = refl
 
 pub sum-zero : (n : ℕ) → sumBelow n (λ i. 0) ≡ 0
 unfolding sumBelow

@@ -1,6 +1,6 @@
 -- Flavor, offset, phase, base bits, and the most bits that n pairs take, from document 01. k is 2 ^ lg_k, c the coupons, n the pairs. Assumes nothing.
 use Prim.Native.Nat.{ℕ, zero, suc, _+_, _-_, _*_, _/_, _%_, _^_}
-use mathlib.Core.Bool.{Bool, not, _||_}
+use mathlib.Core.Bool.{not, _||_}
 use lib.Dec.{ltb, eqb}
 use Rattle.laws.specs.Choose.{choose}
 use Rattle.numbers.specs.declared.Flavor.{Flavor}

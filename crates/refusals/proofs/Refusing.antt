@@ -1,5 +1,5 @@
 -- A refusal is told as one, and keeps what was lent. Assumes nothing.
-use mathlib.Core.Path.{_≡_, refl, sym, subst}
+use mathlib.Core.Path.{_≡_, refl}
 use Prim.Native.Nat.{ℕ}
 use Rattle.refusals.specs.Outcome.{Outcome, accepted, refused, stopped, ifAccepted}
 use Rattle.refusals.specs.Told.{told}

@@ -1,6 +1,6 @@
 -- What a public call says, in document 01's numbers. Assumes nothing.
 use Prim.Native.Nat.{ℕ}
-use mathlib.Core.List.{List, []}
+use mathlib.Core.List.{List}
 use Rattle.refusals.specs.declared.Numbers.{Numbers}
 
 pub data Outcome : Type 0 where

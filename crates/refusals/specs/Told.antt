@@ -1,5 +1,4 @@
 -- Document 01's number and place of each refusal, and the bit position of a reader's. Assumes nothing.
-use Prim.Native.Nat.{ℕ}
 use Rattle.refusals.specs.Outcome.{Outcome, refused, stopped}
 use Rattle.refusals.specs.declared.Reason.{Reason}
 use Rattle.refusals.specs.declared.Reason.the-variants as reason

@@ -2,17 +2,15 @@
 use mathlib.Core.Path.{_≡_, sym, ap, _∙_}
 use mathlib.Core.Bool.{true, false, _&&_}
 use denote.Ref.{now}
-use borrow.Author.Tests.{not-true, not-false, eqb-true}
-use lib.Dec.{eqb}
+use borrow.Author.Tests.{not-true, not-false}
 use lib.ListN.{length}
-use Rattle.laws.proofs.Truths.{and-left, and-right}
-use Rattle.books.specs.Book.{firstMisshapen, sized, oneSymbolEach}
+use Rattle.laws.proofs.Truths.{and-left}
+use Rattle.books.specs.Book.{firstMisshapen, oneSymbolEach}
 use Rattle.books.specs.Table.{isTableOf}
 use Rattle.books.specs.Told.{toldCheck}
-use Rattle.books.specs.Calls.{judged, checkTableOf}
 use Rattle.books.specs.Steps.{taken}
 use Rattle.books.proofs.Shaping.{all-shaped}
-use Rattle.books.proofs.Verdicts.{sized-short, fit, check-fit, first-refused, first-accepted, shaped-judged}
+use Rattle.books.proofs.Verdicts.{fit, fit-both, check-fit, first-refused, first-accepted, shaped-judged}
 use borrow.Author.Needs.{needs}
 use Rattle.books.proofs.check_table.Statement.{statement}
 use Rattle.books.proofs.check_table.Tie as tie
@@ -24,7 +22,9 @@ fits : (c : tie.Else1) → fit (now (begun c .args .book)) (now (begun c .args .
 fits c = sym (c .before .right-lengths .ensures) ∙ not-false (c .before .right-lengths .result) (c .if1 .left)
 
 -- past the shapes and the sum
-first : (c : tie.After-enum-told) → (firstMisshapen (now (begun (c .before .before .before) .args .book)) ≡ length (now (begun (c .before .before .before) .args .book))) × (taken (now (begun (c .before .before .before) .args .book)) ≡ 4096)
+first : (c : tie.After-enum-told)
+    → (firstMisshapen (now (begun (c .before .before .before) .args .book)) ≡ length (now (begun (c .before .before .before) .args .book)))
+    × (taken (now (begun (c .before .before .before) .args .book)) ≡ 4096)
 first c =
     first-accepted (now (begun (c .before .before .before) .args .book))
     (sym (ap toldCheck (c .enum-told .given .1)) ∙ c .before .before .judge-shapes .ensures)
@@ -41,7 +41,7 @@ returns c =
 judge-shapes-requires : tie.Need-judge-shapes-requires
 judge-shapes-requires c κs =
     let a = begun c .args in
-    sized-short (now (a .book)) (and-left (sized (now (a .book))) (eqb (length (now (a .table))) 4096) (fits c))
+    fit-both (now (a .book)) (now (a .table)) (fits c) .1
 
 enum-known-why : tie.Need-enum-known-why
 enum-known-why c = search needs
@@ -54,7 +54,8 @@ is-table-requires c κs =
     let e = c .before .before .before in
     let a = begun e .args in
     let f = first c in
-    (sized-short (now (a .book)) (and-left (sized (now (a .book))) (eqb (length (now (a .table))) 4096) (fits e)), all-shaped (now (a .book)) (f .0), f .1, eqb-true (length (now (a .table))) 4096 (and-right (sized (now (a .book))) (eqb (length (now (a .table))) 4096) (fits e)))
+    let both = fit-both (now (a .book)) (now (a .table)) (fits e) in
+    (both .1, all-shaped (now (a .book)) (f .0), f .1, both .2)
 
 verdict-requires : tie.Need-verdict-requires
 verdict-requires c κs = search needs
@@ -79,7 +80,8 @@ returns-3 c =
     let b = now (a .book) in
     let t = now (a .table) in
     c .verdict .ensures
-    ∙ sym (check-fit b t true (fits e) ∙ shaped-judged b (oneSymbolEach b && isTableOf b t) (c .before .is-table .result) (first k .0) (sym (c .before .is-table .ensures)))
+    ∙ sym (check-fit b t true (fits e) ∙ shaped-judged b (oneSymbolEach b && isTableOf b t) (c .before .is-table .result) (first k .0)
+    (sym (c .before .is-table .ensures)))
 
 pub check-table-spec : {M : Type 1} → statement M
 check-table-spec =

@@ -2,18 +2,15 @@
 use mathlib.Core.List.{[]}
 use Rattle.refusals.specs.Outcome.{accepted}
 use Rattle.refusals.specs.declared.Refusal.the-variants.{WrongLength}
-use Rattle.books.specs.Book.{sized, oneSymbolEach}
+use Rattle.books.specs.Book.{oneSymbolEach}
 use Rattle.books.specs.Calls.{judged}
 use mathlib.Core.Path.{_≡_, sym, ap, _∙_}
 use mathlib.Core.Bool.{true, false}
 use denote.Ref.{now}
-use borrow.Author.Tests.{not-true, not-false, eqb-true}
-use lib.Dec.{eqb}
-use lib.ListN.{length}
-use Rattle.laws.proofs.Truths.{and-left, and-right}
+use borrow.Author.Tests.{not-true, not-false}
 use Rattle.books.specs.Told.{toldCheck}
 use Rattle.books.proofs.Shaping.{all-shaped}
-use Rattle.books.proofs.Verdicts.{fit, fill-fit, fill-refused, fill-accepted, judged-accepted, sized-short}
+use Rattle.books.proofs.Verdicts.{fit, fit-both, fill-fit, fill-refused, fill-accepted, judged-accepted}
 use borrow.Author.Needs.{needs}
 use Rattle.books.proofs.fill_table.Statement.{statement}
 use Rattle.books.proofs.fill_table.Tie as tie
@@ -41,7 +38,7 @@ returns c =
 judge-book-requires : tie.Need-judge-book-requires
 judge-book-requires c κs =
     let a = begun c .args in
-    sized-short (now (a .book)) (and-left (sized (now (a .book))) (eqb (length (now (a .table))) 4096) (fits c))
+    fit-both (now (a .book)) (now (a .table)) (fits c) .1
 
 enum-known-why : tie.Need-enum-known-why
 enum-known-why c = search needs
@@ -55,7 +52,8 @@ fill-requires c κs =
     let e = k .before .before .before in
     let a = begun e .args in
     let j = judged-accepted (now (a .book)) (oneSymbolEach (now (a .book))) (sym (passed k)) in
-    (sized-short (now (a .book)) (and-left (sized (now (a .book))) (eqb (length (now (a .table))) 4096) (fits e)), all-shaped (now (a .book)) (j .0), j .1, eqb-true (length (now (a .table))) 4096 (and-right (sized (now (a .book))) (eqb (length (now (a .table))) 4096) (fits e)))
+    let both = fit-both (now (a .book)) (now (a .table)) (fits e) in
+    (both .1, all-shaped (now (a .book)) (j .0), j .1, both .2)
 
 returns-2 : tie.Need-returns-2
 returns-2 c =
@@ -74,7 +72,8 @@ returns-3 c =
     let k = d .before .before in
     let e = k .before .before .before in
     let a = begun e .args in
-    fill-accepted (now (a .book)) (now (a .table)) (d .fill .last .1 .0) (passed k ∙ sym (fill-fit (now (a .book)) (now (a .table)) true (fits e))) (d .fill .ensures)
+    fill-accepted (now (a .book)) (now (a .table)) (d .fill .last .1 .0) (passed k ∙ sym (fill-fit (now (a .book)) (now (a .table)) true (fits e)))
+    (d .fill .ensures)
 
 pub fill-table-spec : {M : Type 1} → statement M
 fill-table-spec =

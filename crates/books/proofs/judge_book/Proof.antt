@@ -32,7 +32,7 @@ covers-requires : tie.Need-covers-requires
 covers-requires c κs =
     let st = begun c in
     let f = first c in
-    (st .pre, all-shaped (now (st .args .book)) (f .0), f .1)
+    (all-shaped (now (st .args .book)) (f .0), f .1)
 
 verdict-requires : tie.Need-verdict-requires
 verdict-requires c κs = search needs

@@ -1,7 +1,6 @@
 -- `books::pick` meets its contract. Assumes nothing.
 use native.Mathlib.Omega.{arith}
 use mathlib.Core.Path.{_≡_, sym, ap, _∙_}
-use mathlib.Core.List.{[], _∷_}
 use Prim.Native.Nat.{_*_, _≤_}
 use denote.Ref.{now}
 use lib.ListN.{length}

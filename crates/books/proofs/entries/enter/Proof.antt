@@ -1,6 +1,6 @@
 -- `books::entries::enter` meets its contract. Assumes nothing.
 use native.Mathlib.Omega.{arith}
-use mathlib.Core.Path.{_≡_, sym, _∙_}
+use mathlib.Core.Path.{_≡_}
 use Prim.Native.Nat.{_-_, _*_, _/_, _%_, _^_}
 use denote.Ref.{now}
 use Rattle.laws.proofs.Shifts.{one-shl}
@@ -46,7 +46,8 @@ loop-again : tie.Need-loop-again Inv-loop μ-loop
 loop-again c =
     let h = c .before in
     let st = h .before .before .before in
-    entering-turn (now (st .args .table)) (h .loop .table) (st .args .entry) (h .before .entry-of .result) (1 * 2 ^ (st .args .entry / 4096) % 2 ^ 64) (h .loop .n) (h .loop .inv) (omega arith)
+    entering-turn (now (st .args .table)) (h .loop .table) (st .args .entry) (h .before .entry-of .result) (1 * 2 ^ (st .args .entry / 4096) % 2 ^ 64) (h .loop .n)
+    (h .loop .inv) (omega arith)
 
 same-length : tie.Need-same-length Inv-loop μ-loop
 same-length c = c .before .loop .inv .size
@@ -55,8 +56,8 @@ returns : tie.Need-returns Inv-loop μ-loop
 returns c =
     let h = c .before in
     let st = h .before .before .before in
-    entering-end (now (st .args .table)) (h .loop .table) (st .args .entry) (st .args .x) (h .before .entry-of .result) (1 * 2 ^ (st .args .entry / 4096) % 2 ^ 64) (h .loop .n)
-    (h .loop .inv) (omega arith) (step-is (h .before)) (h .before .entry-of .ensures)
+    entering-end (now (st .args .table)) (h .loop .table) (st .args .entry) (st .args .x) (h .before .entry-of .result)
+    (1 * 2 ^ (st .args .entry / 4096) % 2 ^ 64) (h .loop .n) (h .loop .inv) (omega arith) (step-is (h .before)) (h .before .entry-of .ensures)
 
 pub enter-spec : {M : Type 1} → statement M
 enter-spec =

@@ -1,6 +1,6 @@
 -- `books::entries::fill` meets its contract. Assumes nothing.
 use native.Mathlib.Omega.{arith}
-use mathlib.Core.Path.{_≡_, sym, _∙_, subst}
+use mathlib.Core.Path.{sym, _∙_, subst}
 use Prim.Native.Nat.{_-_}
 use denote.Ref.{now}
 use lib.ListN.{length}
@@ -49,8 +49,8 @@ loop-again c =
     let w = e .before in
     let h = w .before .before .before .before in
     let st = h .before .before .before in
-    filling-turn (now (st .args .book)) (h .loop .table) (e .enter .last .0) (h .loop .x) (w .wide .result) (st .pre .2) (omega arith) (w .wide .ensures .0) (e .enter .kept .0)
-    (e .enter .ensures) (h .loop .inv)
+    filling-turn (now (st .args .book)) (h .loop .table) (e .enter .last .0) (h .loop .x) (w .wide .result) (st .pre .2) (omega arith) (w .wide .ensures .0)
+    (e .enter .kept .0) (e .enter .ensures) (h .loop .inv)
 
 same-length : tie.Need-same-length Inv-loop μ-loop
 same-length c = c .before .loop .inv .size ∙ sym (c .before .before .before .before .pre .3)
@@ -59,7 +59,8 @@ returns : tie.Need-returns Inv-loop μ-loop
 returns c =
     let h = c .before in
     let st = h .before .before .before in
-    whole (now (st .args .book)) (st .pre .2) (h .loop .table) (h .loop .inv .size) (filling-end (now (st .args .book)) (h .loop .table) (h .loop .x) (h .loop .inv) (omega arith))
+    whole (now (st .args .book)) (st .pre .2) (h .loop .table) (h .loop .inv .size)
+    (filling-end (now (st .args .book)) (h .loop .table) (h .loop .x) (h .loop .inv) (omega arith))
 
 pub fill-spec : {M : Type 1} → statement M
 fill-spec =

@@ -1,12 +1,9 @@
 -- `books::entries::level_repeats` meets its contract. Assumes nothing.
 use native.Mathlib.Omega.{arith}
 use mathlib.Core.Path.{refl}
-use Prim.Native.Nat.{_+_, _-_}
+use Prim.Native.Nat.{_-_}
 use denote.Ref.{now}
 use lib.Dec.{eqb}
-use lib.ListN.{getD}
-use Rattle.laws.proofs.Truths.{one-most}
-use Rattle.books.specs.Steps.{breaks}
 use Rattle.books.proofs.Repeating.{Counted, counted-start, counted-turn, counted-end}
 use borrow.Author.Needs.{needs}
 use Rattle.books.proofs.entries.level_repeats.Statement.{statement}
@@ -42,8 +39,7 @@ one-if-broken-requires c κs = search needs
 add-count : tie.Need-add-count Inv-loop μ-loop
 add-count c =
     let h = c .before .before .before .before in
-    let a = h .before .before .args in
-    omega (arith, h .loop .inv .most, h .loop .inv .within, h .before .before .pre .1, c .one-if-broken .ensures, one-most (breaks (getD (now (a .table)) (h .loop .m) 0) (getD (now (a .table)) (a .half + h .loop .m) 0) (a .limit)))
+    omega (arith, h .loop .inv .most, h .loop .inv .within, h .before .before .pre .1, c .one-if-broken .ensures .1)
 
 add-m : tie.Need-add-m Inv-loop μ-loop
 add-m c = search needs
@@ -55,7 +51,8 @@ loop-again : tie.Need-loop-again Inv-loop μ-loop
 loop-again c =
     let h = c .before .before .before .before in
     let a = h .before .before .args in
-    counted-turn (now (a .table)) (a .half) (a .limit) (h .loop .count) (h .loop .m) (c .one-if-broken .result) (h .loop .inv) (omega arith) (c .one-if-broken .ensures)
+    counted-turn (now (a .table)) (a .half) (a .limit) (h .loop .count) (h .loop .m) (c .one-if-broken .result) (h .loop .inv) (omega arith)
+    (c .one-if-broken .ensures .0)
 
 returns : tie.Need-returns Inv-loop μ-loop
 returns c =

@@ -12,13 +12,14 @@ use Rattle.books.proofs.entries.repeats.Statement.{statement}
 use Rattle.books.proofs.entries.repeats.Tie as tie
 
 abbrev Inv-loop : tie.InvT-loop
-Inv-loop table bits₀ half₀ limit₀ bits half limit = (bits ≤ 12) × (half ≡ 2 ^ bits) × (limit ≡ (bits + 1) * 256) × ((b : ℕ) → b < bits → Repeats table (2 ^ b) ((b + 1) * 256))
+Inv-loop table bits₀ half₀ limit₀ bits half limit =
+    (bits ≤ 12) × (half ≡ 2 ^ bits) × (limit ≡ (bits + 1) * 256) × ((b : ℕ) → b < bits → Repeats table (2 ^ b) ((b + 1) * 256))
 
 abbrev μ-loop : tie.MeasureT-loop
 μ-loop table bits₀ half₀ limit₀ bits half limit = 12 - bits
 
 loop-holds : tie.Need-loop-holds Inv-loop μ-loop
-loop-holds c = (omega arith, refl, refl, λ b l. absurd (omega arith))
+loop-holds c = (omega arith, refl, omega arith, λ b l. absurd (omega arith))
 
 level-repeats-requires : tie.Need-level-repeats-requires Inv-loop μ-loop
 level-repeats-requires c κs =

@@ -15,7 +15,7 @@ slice-aggregate-mark-all c = search needs
 mark-all-requires : tie.Need-mark-all-requires
 mark-all-requires c κs =
     let st = c .before .before in
-    (st .pre .0, st .pre .1, search needs, unmarked)
+    (st .pre .0, search needs, unmarked)
 
 slice-aggregate-spread : tie.Need-slice-aggregate-spread
 slice-aggregate-spread c = search needs
@@ -38,8 +38,8 @@ returns c =
     let marks = m .mark-all .last .1 .0 in
     let after = s .spread .last .0 in
     says-is (Full after) (c .all-marked .result) (oneSymbolEach b) (c .all-marked .ensures)
-    (full-passes b marks after (st .pre .1) (m .mark-all .ensures) (s .spread .ensures) (st .pre .2))
-    (passes-full b marks after (st .pre .1) (m .mark-all .ensures) (s .spread .ensures))
+    (full-passes b marks after (st .pre .0) (m .mark-all .ensures) (s .spread .ensures) (st .pre .1))
+    (passes-full b marks after (st .pre .0) (m .mark-all .ensures) (s .spread .ensures))
 
 pub covers-spec : {M : Type 1} → statement M
 covers-spec =

@@ -1,7 +1,7 @@
 -- `books::marks::mark` meets its contract. Assumes nothing.
 use native.Mathlib.Omega.{arith}
 use mathlib.Core.Path.{_≡_, sym, ap, subst}
-use Prim.Native.Nat.{ℕ, _+_, _*_, _/_, _%_, _^_, _<_, _≤_}
+use Prim.Native.Nat.{ℕ, _+_, _*_, _/_, _%_, _^_, _≤_}
 use denote.Ref.{now}
 use lib.Bits.{bitOr}
 use lib.ListN.{getD, set}

@@ -19,7 +19,7 @@ abbrev μ-loop : tie.MeasureT-loop
 loop-holds : tie.Need-loop-holds Inv-loop μ-loop
 loop-holds c =
     let st = c .before .before in
-    (omega arith, st .pre .2, marking-start (now (st .args .book)) (now (st .args .marks)) (st .pre .3))
+    (omega arith, st .pre .1, marking-start (now (st .args .book)) (now (st .args .marks)) (st .pre .2))
 
 mul-wide : tie.Need-mul-wide Inv-loop μ-loop
 mul-wide c = search needs
@@ -34,7 +34,7 @@ mark-requires : tie.Need-mark-requires Inv-loop μ-loop
 mark-requires c κs =
     let w = c .before in
     let h = w .before .before .before in
-    let sh = subst Shape (sym (w .wide .ensures .0)) (h .before .before .before .pre .1 (h .loop .x) (omega arith)) in
+    let sh = subst Shape (sym (w .wide .ensures .0)) (h .before .before .before .pre .0 (h .loop .x) (omega arith)) in
     (h .loop .inv .1, sh .most, sh .fits)
 
 add-x : tie.Need-add-x Inv-loop μ-loop
@@ -52,11 +52,11 @@ loop-again c =
       omega arith,
       e .mark .kept .0 ∙ h .loop .inv .1,
       marking-turn (now (st .args .book)) (h .loop .marks) (e .mark .last .0) (h .loop .x) (w .wide .result) (w .wide .ensures .0) (e .mark .ensures)
-          (λ y l. st .pre .1 y (omega arith) .most) (h .loop .inv .2),
+          (λ y l. st .pre .0 y (omega arith) .most) (h .loop .inv .2),
     )
 
 same-length : tie.Need-same-length Inv-loop μ-loop
-same-length c = c .before .loop .inv .1 ∙ sym (c .before .before .before .before .pre .2)
+same-length c = c .before .loop .inv .1 ∙ sym (c .before .before .before .before .pre .1)
 
 returns : tie.Need-returns Inv-loop μ-loop
 returns c =

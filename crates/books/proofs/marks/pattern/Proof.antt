@@ -11,21 +11,21 @@ use Rattle.books.proofs.marks.pattern.Statement.{statement}
 use Rattle.books.proofs.marks.pattern.Tie as tie
 
 abbrev Inv-loop : tie.InvT-loop
-Inv-loop length codeword word₀ bits₀ word bits = Pattern length codeword word bits
+Inv-loop len codeword word₀ bits₀ word bits = Pattern len codeword word bits
 
 abbrev μ-loop : tie.MeasureT-loop
-μ-loop length codeword word₀ bits₀ word bits = 6 - bits
+μ-loop len codeword word₀ bits₀ word bits = 6 - bits
 
 few : (c : tie.Start Inv-loop μ-loop) → c .args .codeword < 64
-few c = omega (arith, c .pre .1, pow-mono {i = c .args .length} {j = 6} (c .pre .0))
+few c = omega (arith, c .pre .1, pow-mono {i = c .args .len} {j = 6} (c .pre .0))
 
 shl-word : tie.Need-shl-word Inv-loop μ-loop
 shl-word c = few c
 
 loop-holds : tie.Need-loop-holds Inv-loop μ-loop
 loop-holds c =
-    subst (λ (w : ℕ). Pattern (c .args .length) (c .args .codeword) w (c .args .length)) (sym (one-shl (c .args .codeword) (few c)))
-    (pattern-start (c .args .length) (c .args .codeword) (c .pre .0) (c .pre .1))
+    subst (λ (w : ℕ). Pattern (c .args .len) (c .args .codeword) w (c .args .len)) (sym (one-shl (c .args .codeword) (few c)))
+    (pattern-start (c .args .len) (c .args .codeword) (c .pre .0) (c .pre .1))
 
 shl-word-2 : tie.Need-shl-word-2 Inv-loop μ-loop
 shl-word-2 c = search needs
@@ -45,14 +45,15 @@ loop-again : tie.Need-loop-again Inv-loop μ-loop
 loop-again c =
     let h = c .before in
     let a = h .before .args in
-    subst (λ (s : ℕ). Pattern (a .length) (a .codeword) (bitOr (h .loop .word) (h .loop .word * 2 ^ s % 2 ^ 64)) (h .loop .bits + 1)) (sym (one-shl (h .loop .bits) (omega arith)))
-    (pattern-turn (a .length) (a .codeword) (h .loop .word) (h .loop .bits) (h .loop .inv) (omega arith))
+    subst (λ (s : ℕ). Pattern (a .len) (a .codeword) (bitOr (h .loop .word) (h .loop .word * 2 ^ s % 2 ^ 64)) (h .loop .bits + 1))
+    (sym (one-shl (h .loop .bits) (omega arith)))
+    (pattern-turn (a .len) (a .codeword) (h .loop .word) (h .loop .bits) (h .loop .inv) (omega arith))
 
 returns : tie.Need-returns Inv-loop μ-loop
 returns c =
     let h = c .before in
     let a = h .before .args in
-    pattern-end (a .length) (a .codeword) (h .loop .word) (h .loop .bits) (h .loop .inv) (omega arith)
+    pattern-end (a .len) (a .codeword) (h .loop .word) (h .loop .bits) (h .loop .inv) (omega arith)
 
 pub pattern-spec : {M : Type 1} → statement M
 pattern-spec =

@@ -45,7 +45,8 @@ loop-again c =
       omega arith,
       twice-half (h .loop .d) (h .loop .half) (h .loop .inv .1),
       e .widen .kept .0 ∙ h .loop .inv .2,
-      spreading-turn (now (st .args .marks)) (h .loop .marks) (e .widen .last .0) (h .loop .d) (h .loop .half) (h .loop .inv .1) (e .widen .ensures) (h .loop .inv .3),
+      spreading-turn (now (st .args .marks)) (h .loop .marks) (e .widen .last .0) (h .loop .d) (h .loop .half) (h .loop .inv .1)
+          (e .widen .ensures) (h .loop .inv .3),
     )
 
 same-length : tie.Need-same-length Inv-loop μ-loop
