@@ -1,0 +1,89 @@
+// What is stored behind the inputs of a case, and whether an answer is that.
+use super::lists;
+use super::verdicts;
+use super::verdicts::Verdict;
+use super::words;
+use super::words::Number;
+
+// What `answer` holds before a call, so that a number left unwritten shows.
+pub fn unwritten() -> [u64; 8] {
+    [0xA5A5_A5A5_A5A5_A5A5; 8]
+}
+
+// The stored numbers stand behind word `from` and before word `to`: three to nine, and 0 for those left out. Whether they are that.
+fn read(line: &[u8], from: usize, to: usize, stored: &mut [u64; 9]) -> bool {
+    if to <= from {
+        return false;
+    }
+    let given = to - from - 1;
+    if given < 3 {
+        return false;
+    }
+    if given > 9 {
+        return false;
+    }
+    let mut i = 0;
+    while i < given {
+        let Number::Is(n) = words::u64_at(line, from + 1 + i) else {
+            return false;
+        };
+        stored[i] = n;
+        i += 1;
+    }
+    true
+}
+
+fn equal(stored: &[u64; 9], result: u32, answer: &[u64; 8]) -> bool {
+    if stored[0] != result as u64 {
+        return false;
+    }
+    let mut i = 0;
+    while i < 8 {
+        if stored[i + 1] != answer[i] {
+            return false;
+        }
+        i += 1;
+    }
+    true
+}
+
+// Word `from` is `=`, and the numbers stand behind it up to word `to`.
+fn judge(line: &[u8], from: usize, to: usize, result: u32, answer: &[u64; 8]) -> Verdict {
+    if !words::is(line, from, b"=") {
+        return Verdict::NotACase;
+    }
+    let mut stored = [0u64; 9];
+    if !read(line, from, to, &mut stored) {
+        return Verdict::NotACase;
+    }
+    if !equal(&stored, result, answer) {
+        return Verdict::Disagrees;
+    }
+    Verdict::Agrees
+}
+
+// A case with no list behind its numbers.
+pub fn plain(line: &[u8], from: usize, result: u32, answer: &[u64; 8]) -> Verdict {
+    judge(line, from, words::count(line), result, answer)
+}
+
+// A case with a list behind its numbers: what was lent holds it afterwards.
+pub fn with_u16(
+    line: &[u8],
+    from: usize,
+    result: u32,
+    answer: &[u64; 8],
+    after: &[u16],
+) -> Verdict {
+    let end = words::count(line);
+    if end < 2 {
+        return Verdict::NotACase;
+    }
+    let to = end - 2;
+    if !words::is(line, to, b";") {
+        return Verdict::NotACase;
+    }
+    let numbers = judge(line, from, to, result, answer);
+    let list = lists::compare_u16(words::word(line, to + 1), after);
+    verdicts::both(numbers, list)
+}

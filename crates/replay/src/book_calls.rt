@@ -1,0 +1,96 @@
+// The calls of bridgenook's module book_calls.
+use super::answers;
+use super::lists;
+use super::runs::Filled;
+use super::verdicts::Verdict;
+use super::words;
+use super::words::NumberU8;
+use bridgenook::book_calls;
+
+fn check_book(line: &[u8]) -> Verdict {
+    let mut space = [0u16; 8192];
+    let book: &mut [u16] = &mut space;
+    let Filled::To(entries) = lists::read_u16(words::word(line, 1), book) else {
+        return Verdict::NotACase;
+    };
+    let mut answer = answers::unwritten();
+    let result = book_calls::bridgenook_check_book(lists::front_u16(book, entries), &mut answer);
+    answers::plain(line, 2, result, &answer)
+}
+
+fn check_table(line: &[u8]) -> Verdict {
+    let mut space = [0u16; 8192];
+    let book: &mut [u16] = &mut space;
+    let Filled::To(entries) = lists::read_u16(words::word(line, 1), book) else {
+        return Verdict::NotACase;
+    };
+    let mut place = [0u16; 8192];
+    let table: &mut [u16] = &mut place;
+    let Filled::To(numbers) = lists::read_u16(words::word(line, 2), table) else {
+        return Verdict::NotACase;
+    };
+    let mut answer = answers::unwritten();
+    let result = book_calls::bridgenook_check_table(
+        lists::front_u16(book, entries),
+        lists::front_u16(table, numbers),
+        &mut answer,
+    );
+    answers::plain(line, 3, result, &answer)
+}
+
+fn fill_table(line: &[u8]) -> Verdict {
+    let mut space = [0u16; 8192];
+    let book: &mut [u16] = &mut space;
+    let Filled::To(entries) = lists::read_u16(words::word(line, 1), book) else {
+        return Verdict::NotACase;
+    };
+    let mut place = [0u16; 8192];
+    let table: &mut [u16] = &mut place;
+    let Filled::To(numbers) = lists::read_u16(words::word(line, 2), table) else {
+        return Verdict::NotACase;
+    };
+    let mut answer = answers::unwritten();
+    let result = book_calls::bridgenook_fill_table(
+        lists::front_u16(book, entries),
+        lists::lent_u16(table, numbers),
+        &mut answer,
+    );
+    answers::with_u16(line, 3, result, &answer, lists::front_u16(table, numbers))
+}
+
+// The list behind the numbers is the part that `books::pick` hands back.
+fn pick(line: &[u8]) -> Verdict {
+    let mut space = [0u16; 8192];
+    let set: &mut [u16] = &mut space;
+    let Filled::To(entries) = lists::read_u16(words::word(line, 1), set) else {
+        return Verdict::NotACase;
+    };
+    let NumberU8::Is(phase) = words::u8_at(line, 2) else {
+        return Verdict::NotACase;
+    };
+    let mut answer = answers::unwritten();
+    let result = book_calls::bridgenook_pick(lists::front_u16(set, entries), phase, &mut answer);
+    answers::with_u16(
+        line,
+        3,
+        result,
+        &answer,
+        books::pick(lists::front_u16(set, entries), phase),
+    )
+}
+
+pub fn run(line: &[u8]) -> Verdict {
+    if words::is(line, 0, b"check_book") {
+        return check_book(line);
+    }
+    if words::is(line, 0, b"check_table") {
+        return check_table(line);
+    }
+    if words::is(line, 0, b"fill_table") {
+        return fill_table(line);
+    }
+    if words::is(line, 0, b"pick") {
+        return pick(line);
+    }
+    Verdict::NoSuchCall
+}
