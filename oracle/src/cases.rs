@@ -153,11 +153,11 @@ impl AgainstReading {
         }
     }
 
-    /// A call whose rule is the design's own: the page does not have it, so equal answers show only
+    /// A call whose rule is our own: document 01 does not have it, so equal answers show only
     /// that the rule was written down the same way twice.
-    pub fn of_design(call: &'static str) -> Self {
+    pub fn of_our_own(call: &'static str) -> Self {
         Self {
-            reading: "a plain reading of the design's own rule, not document 01's",
+            reading: "a second writing of our own rule, which document 01 does not have",
             ..Self::new(call)
         }
     }

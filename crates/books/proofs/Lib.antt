@@ -1,5 +1,5 @@
 -- Laws that belong to no one function.
-pub mod Saying
+pub mod Deciding
 pub mod Shaping
 pub mod Symbols
 pub mod Counting

@@ -18,7 +18,7 @@ use Rattle.laws.proofs.Truths.{and-left, and-right, and-both, true-or-false}
 use Rattle.laws.proofs.Powers.{below-top}
 use Rattle.books.specs.Book.{lengthIn, codewordIn, oneSymbolEach}
 use Rattle.books.specs.Table.{isTableOf}
-use Rattle.books.specs.Steps.{Says, AllShaped, taken, Hit, entryOf, Agreed, Stands, breaks, Repeats, AllRepeat}
+use Rattle.books.specs.Steps.{Decides, AllShaped, taken, Hit, entryOf, Agreed, Stands, breaks, Repeats, AllRepeat}
 use Rattle.books.proofs.Agreement.{which-at, decoded-is, holds, passes, table-at, table-of}
 
 -- ---- the count of what is broken
@@ -75,7 +75,7 @@ module _ (table : List ℕ) (half limit : ℕ) where
             complete = λ h. omega (arith, c .complete (λ k lk. h k (omega arith)));
           }
 
-  pub counted-end : (count m : ℕ) → Counted count m → half ≤ m → (t : Bool) → eqb count 0 ≡ t → Says (Repeats table half limit) t
+  pub counted-end : (count m : ℕ) → Counted count m → half ≤ m → (t : Bool) → eqb count 0 ≡ t → Decides (Repeats table half limit) t
   counted-end count m c l true e = λ k lk. c .sound (eqb-true count 0 e) k (omega arith)
   counted-end count m c l false e = λ h. eqb-false count 0 e (c .complete (λ k lk. h k (omega (arith, c .within))))
 

@@ -1,4 +1,4 @@
--- What the private functions promise each other. Assumes nothing.
+-- What the private functions promise each other: no public contract cites it, so there is nothing here to believe. Assumes nothing.
 use mathlib.Core.Path.{_≡_}
 use mathlib.Core.Bool.{Bool, true, false, not, _&&_, _||_}
 use mathlib.Core.List.{List, [], _∷_}
@@ -14,9 +14,9 @@ use Rattle.books.specs.declared.shapes.Shapes.{Shapes}
 use Rattle.books.specs.declared.shapes.Shapes.the-variants.{Misshapen, Taken}
 
 -- a test says that a fact holds, or that it does not
-abbrev pub Says : Type 0 → Bool → Type 0
-Says P true = P
-Says P false = P → ⊥
+abbrev pub Decides : Type 0 → Bool → Type 0
+Decides P true = P
+Decides P false = P → ⊥
 
 -- ---- shapes
 
@@ -68,7 +68,7 @@ breaks a b limit = ltb a limit && not (eqb b a)
 abbrev pub Repeats : List ℕ → ℕ → ℕ → Type 0
 Repeats table half limit = (m : ℕ) → m < half → getD table m 0 < limit → getD table (half + m) 0 ≡ getD table m 0
 
--- so many bits decide a symbol of at most so many
+-- an entry of length at most `bits` below 2^bits stands again 2^bits higher
 abbrev pub AllRepeat : List ℕ → Type 0
 AllRepeat table = (bits : ℕ) → bits < 12 → Repeats table (2 ^ bits) ((bits + 1) * 256)
 

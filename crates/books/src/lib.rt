@@ -13,7 +13,7 @@ ghost use Rattle.books.specs.Told.{toldCheck, toldPick};
 ghost use Rattle.books.specs.Calls.{judged, checkOf, checkTableOf, fillOf, filled, pickOf, picked};
 ghost use Rattle.books.specs.Steps.{firstJudged};
 
-mod entries;
+mod decoding;
 mod marks;
 mod shapes;
 
@@ -31,22 +31,22 @@ pub enum PickAnswer {
     Refused(Refusal),
 }
 
-fn right_length(n: usize) -> bool
-    ensures { λ r. ⌜ r ≡ (eqb n 65 || eqb n 256) ⌝ }
+fn right_length(symbols: usize) -> bool
+    ensures { λ r. ⌜ r ≡ (eqb symbols 65 || eqb symbols 256) ⌝ }
 {
-    if n == 65 {
+    if symbols == 65 {
         return true;
     }
-    n == 256
+    symbols == 256
 }
 
-fn right_lengths(n: usize, m: usize) -> bool
-    ensures { λ r. ⌜ r ≡ ((eqb n 65 || eqb n 256) && eqb m 4096) ⌝ }
+fn right_lengths(symbols: usize, numbers: usize) -> bool
+    ensures { λ r. ⌜ r ≡ ((eqb symbols 65 || eqb symbols 256) && eqb numbers 4096) ⌝ }
 {
-    if !right_length(n) {
+    if !right_length(symbols) {
         return false;
     }
-    m == 4096
+    numbers == 4096
 }
 
 // Refusal 3 has a place only for a wrong shape.
@@ -100,7 +100,7 @@ pub fn check_table(book: &[u16], table: &[u16]) -> CheckAnswer
     }
     match judge_shapes(book) {
         CheckAnswer::Refused(why) => CheckAnswer::Refused(why),
-        CheckAnswer::Passes => verdict(entries::is_table(book, table)),
+        CheckAnswer::Passes => verdict(decoding::is_table(book, table)),
     }
 }
 
@@ -114,7 +114,7 @@ pub fn fill_table(book: &[u16], table: &mut [u16]) -> CheckAnswer
     match judge_book(book) {
         CheckAnswer::Refused(why) => CheckAnswer::Refused(why),
         CheckAnswer::Passes => {
-            entries::fill(book, table);
+            decoding::fill(book, table);
             CheckAnswer::Passes
         }
     }

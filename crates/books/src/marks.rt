@@ -7,7 +7,7 @@ ghost use lib.Dec.{eqb};
 ghost use lib.ListN.{length};
 ghost use Rattle.laws.specs.Columns.{has};
 ghost use Rattle.books.specs.Book.{oneSymbolEach};
-ghost use Rattle.books.specs.Steps.{AllShaped, taken, Says, marked, Marked, Marking, Joined, Widened, Spread, Full};
+ghost use Rattle.books.specs.Steps.{AllShaped, taken, Decides, marked, Marked, Marking, Joined, Widened, Spread, Full};
 use super::shapes::wide;
 
 // The numbers below 64 whose low bits are the codeword, by doubling.
@@ -86,7 +86,7 @@ fn spread(marks: &mut [u64])
 
 fn all_marked(marks: &[u64]) -> bool
     requires { ⌜ length (now marks) ≡ 128 ⌝ }
-    ensures { λ r. ⌜ Says (Full (now (marks .entry))) r ⌝ }
+    ensures { λ r. ⌜ Decides (Full (now (marks .entry))) r ⌝ }
 {
     let mut w = 64;
     while w < 128 {

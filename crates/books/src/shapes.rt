@@ -5,6 +5,7 @@ ghost use lib.ListN.{length};
 ghost use Rattle.books.specs.Book.{shaped};
 ghost use Rattle.books.specs.Steps.{ShapesBy};
 
+// A cast with its bound, so that no caller has to show it again.
 pub fn wide(x: u16) -> usize
     ensures { λ r. ⌜ (r ≡ x) × (r < 65536) ⌝ }
 {

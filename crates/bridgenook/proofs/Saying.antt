@@ -4,21 +4,21 @@ use mathlib.Core.List.{List, [], _∷_}
 use Prim.Native.Nat.{ℕ}
 use Rattle.refusals.specs.Outcome.{Outcome, accepted, refused, stopped, numbersIn}
 use Rattle.refusals.specs.Told.{told}
-use Rattle.refusals.specs.declared.Numbers.{Numbers}
+use Rattle.refusals.specs.declared.Numbered.{Numbered}
 use Rattle.refusals.specs.declared.Refusal.{Refusal}
 use Rattle.refusals.proofs.Refusing.{Refuses, by-place, by-bit, refuses}
 use Rattle.bridgenook.specs.Exports.{Says}
 
 -- a place, a bit, and no values
-abbrev pub bare : Numbers → List ℕ
+abbrev pub bare : Numbered → List ℕ
 bare n = n .1 ∷ n .2 ∷ 0 ∷ 0 ∷ 0 ∷ 0 ∷ 0 ∷ 0 ∷ []
 
 says-by : (o : Outcome) → Refuses o → Says o (numbersIn o .0) (bare (numbersIn o))
 says-by (refused number place) by-place = (refl, refl)
 says-by (stopped number place bit) by-bit = (refl, refl)
 
-pub says-refusal : (why : Refusal) (n : Numbers) → n ≡ numbersIn (told why) → Says (told why) (n .0) (bare n)
-says-refusal why n e = subst (λ (m : Numbers). Says (told why) (m .0) (bare m)) (sym e) (says-by (told why) (refuses why))
+pub says-refusal : (why : Refusal) (n : Numbered) → n ≡ numbersIn (told why) → Says (told why) (n .0) (bare n)
+says-refusal why n e = subst (λ (m : Numbered). Says (told why) (m .0) (bare m)) (sym e) (says-by (told why) (refuses why))
 
 -- what says an outcome says an equal one
 pub says-as : {o p : Outcome} {result : ℕ} {answer : List ℕ} → o ≡ p → Says o result answer → Says p result answer

@@ -1,10 +1,7 @@
 -- Truth values. Assumes nothing.
-use mathlib.Core.Path.{_≡_, refl, sym, ap, ap₂}
+use mathlib.Core.Path.{_≡_, refl, ap, ap₂}
 use mathlib.Core.Logic.{_⊎_, inl, inr}
 use mathlib.Core.Bool.{Bool, true, false, _&&_, _||_, false≢true}
-use Prim.Native.Nat.{_≤_}
-use native.Mathlib.Omega.{arith}
-use Rattle.laws.specs.Below.{one}
 
 pub true-or-false : (b : Bool) → (b ≡ true) ⊎ (b ≡ false)
 true-or-false true = inl refl
@@ -39,18 +36,3 @@ or-left a b e = ap (λ (t : Bool). t || b) e
 pub or-right : (a b : Bool) → b ≡ true → (a || b) ≡ true
 or-right true b e = refl
 or-right false b e = e
-
--- two truth values are equal if each is true where the other is
-pub both-true : (a b : Bool) → (a ≡ true → b ≡ true) → (b ≡ true → a ≡ true) → a ≡ b
-both-true true true f g = refl
-both-true true false f g = sym (f refl)
-both-true false true f g = g refl
-both-true false false f g = refl
-
-pub one-most : (b : Bool) → one b ≤ 1
-one-most true = omega arith
-one-most false = omega arith
-
-pub one-true : (b : Bool) → one b ≡ 1 → b ≡ true
-one-true true e = refl
-one-true false e = absurd (omega arith)

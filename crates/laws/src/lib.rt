@@ -1,1 +1,1 @@
-// No code: definitions in specs/ and laws in proofs/ that more than one crate needs.
+// No code: mathematics that the kit lacks and that is about no one crate's subject, definitions in specs/ and laws in proofs/.

@@ -1,4 +1,4 @@
--- Flavor, offset, phase, base bits, and the most bits that n pairs take, from document 01. k is 2 ^ lg_k, c the coupons, n the pairs. Assumes nothing.
+-- Flavor, offset, phase and base bits, from document 01, and the bits that n pairs are granted. k is 2 ^ lg_k, c the coupons, n the pairs. Assumes nothing.
 use Prim.Native.Nat.{ℕ, zero, suc, _+_, _-_, _*_, _/_, _%_, _^_}
 use mathlib.Core.Bool.{not, _||_}
 use lib.Dec.{ltb, eqb}
@@ -42,6 +42,6 @@ floorLog2 q = halvings 26 q
 unfoldable pub baseBitsAt : ℕ → ℕ → ℕ
 baseBitsAt k n = choose (eqb n 0 || ltb k n) 0 (floorLog2 (k / n))
 
--- n pairs never take more than n(15+b)+10 bits; none take none
+-- n pairs are granted n(15+b)+10 bits, and none no bits
 unfoldable pub mostBitsAt : ℕ → ℕ → ℕ
 mostBitsAt k n = choose (eqb n 0) 0 (n * (15 + baseBitsAt k n) + 10)

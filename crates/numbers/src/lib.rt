@@ -1,4 +1,4 @@
-// The numbers of document 01: flavor, offset, phase, base bits, and the most bits that n pairs can take.
+// The numbers of document 01: flavor, offset, phase and base bits; and the bits that n pairs are granted.
 // After src/cpc/mod.rs and src/cpc/compression.rs of the Rust crate datasketches 0.5.0 (Apache-2.0); changed: each call is total and refuses by number.
 ghost use mathlib.Core.Path.{_≡_};
 ghost use Rattle.numbers.specs.Told.{toldRows, toldFlavor, toldNumber, toldMost};
@@ -94,7 +94,7 @@ pub fn number_of_base_bits(lg: u8, pairs: u32) -> NumberAnswer
     }
 }
 
-// What n pairs can take at the most, whatever the pairs and the book: for sizing memory cards.
+// What n pairs are granted, in bits and in words, whatever the pairs and the book: for sizing memory cards.
 pub fn most_bits(lg: u8, pairs: u32) -> MostAnswer
     ensures { λ r. ⌜ toldMost r ≡ mostBitsOf lg pairs ⌝ }
 {

@@ -20,7 +20,7 @@ pairBook = listOf 65 pairEntry
 
 -- Window byte 0: a one. Else a zero and seven bits v; v = 0 is byte 1, else one more bit c, and the byte is 2v + c.
 unfoldable pub windowEntry : ℕ → ℕ
-windowEntry b = choose (eqb b 0) (entry 1 1) (choose (eqb b 1) (entry 8 0) (entry 9 (b / 2 * 2 + b % 2 * 2 ^ 8)))
+windowEntry b = choose (eqb b 0) (entry 1 1) (choose (eqb b 1) (entry 8 0) (entry 9 (b / 2 * 2 ^ 1 + b % 2 * 2 ^ 8)))
 
 unfoldable pub windowBook : List ℕ
 windowBook = listOf 256 windowEntry

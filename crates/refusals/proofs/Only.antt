@@ -1,4 +1,4 @@
--- No second outcome satisfies what a public call promises. Document 01's number, place and bit tell each refusal from every other. Assumes nothing.
+-- No second outcome satisfies what a public call promises. What a refusal is told as, `refused` or `stopped` with its numbers, decides it. Assumes nothing.
 use mathlib.Core.Path.{_≡_, refl, sym, ap, _∙_}
 use mathlib.Core.List.{List}
 use Prim.Native.Nat.{ℕ}
@@ -8,7 +8,7 @@ use Rattle.laws.specs.Choose.{choose}
 use Rattle.refusals.specs.Outcome.{Outcome, accepted, refused, stopped, numbersIn}
 use Rattle.refusals.specs.Told.{told, toldReason}
 use Rattle.refusals.specs.Units.{wordsFor, bitsIn}
-use Rattle.refusals.specs.declared.Numbers.{Numbers}
+use Rattle.refusals.specs.declared.Numbered.{Numbered}
 use Rattle.refusals.specs.declared.Reason.{Reason}
 use Rattle.refusals.specs.declared.Reason.the-variants as reason
 use Rattle.refusals.specs.declared.Refusal.{Refusal}
@@ -82,7 +82,7 @@ never-accepted why values e =
     let first : accepted values ≡ told LgOutside = e ∙ ap told (sym (back why) ∙ ap untold (sym e)) in
     let z : _≡_ {A = ℕ} 0 1 = cc in omega arith
 
-pub one-numbers : (r : Refusal) (a b : Numbers) → a ≡ numbersIn (told r) → b ≡ numbersIn (told r) → a ≡ b
+pub one-numbers : (r : Refusal) (a b : Numbered) → a ≡ numbersIn (told r) → b ≡ numbersIn (told r) → a ≡ b
 one-numbers r a b p q = p ∙ sym q
 
 pub one-words : (bits : Bits) (a b : Words) → a .0 ≡ wordsFor (bits .0) → b .0 ≡ wordsFor (bits .0) → a ≡ b

@@ -1,7 +1,7 @@
 -- What a public call says, in document 01's numbers. Assumes nothing.
 use Prim.Native.Nat.{ℕ}
 use mathlib.Core.List.{List}
-use Rattle.refusals.specs.declared.Numbers.{Numbers}
+use Rattle.refusals.specs.declared.Numbered.{Numbered}
 
 pub data Outcome : Type 0 where
   -- the call is accepted, with the values that it answers
@@ -12,7 +12,7 @@ pub data Outcome : Type 0 where
   stopped : (number place bit : ℕ) → Outcome
 
 -- the same as three numbers: 0 for what it does not carry
-abbrev pub numbersIn : Outcome → Numbers
+abbrev pub numbersIn : Outcome → Numbered
 numbersIn (accepted values) = record { 0 = 0; 1 = 0; 2 = 0 }
 numbersIn (refused number place) = record { 0 = number; 1 = place; 2 = 0 }
 numbersIn (stopped number place bit) = record { 0 = number; 1 = place; 2 = bit }

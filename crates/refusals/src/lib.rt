@@ -54,33 +54,33 @@ pub enum Refusal {
 }
 
 // A refusal in document 01's numbers: its number, its place and its bit position.
-pub struct Numbers(pub u32, pub u64, pub u64);
+pub struct Numbered(pub u32, pub u64, pub u64);
 
 // The one place where a refusal becomes numbers: 0 for a place or a bit that it does not carry.
-pub fn numbers_of(refusal: Refusal) -> Numbers
+pub fn numbers_of(refusal: Refusal) -> Numbered
     ensures { λ r. ⌜ r ≡ numbersIn (told refusal) ⌝ }
 {
     match refusal {
-        Refusal::LgOutside => Numbers(1, 0, 0),
-        Refusal::WrongLength => Numbers(2, 0, 0),
-        Refusal::WrongBook { place } => Numbers(3, place, 0),
-        Refusal::TooManyPairs => Numbers(4, 0, 0),
-        Refusal::NoRoom => Numbers(5, 0, 0),
+        Refusal::LgOutside => Numbered(1, 0, 0),
+        Refusal::WrongLength => Numbered(2, 0, 0),
+        Refusal::WrongBook { place } => Numbered(3, place, 0),
+        Refusal::TooManyPairs => Numbered(4, 0, 0),
+        Refusal::NoRoom => Numbered(5, 0, 0),
         Refusal::Reading(reason) => match reason {
-            Reason::StreamEnds { place, bit } => Numbers(6, place, bit),
-            Reason::RowStepTooLarge { place, bit } => Numbers(7, place, bit),
-            Reason::RowNotBelow { place, bit } => Numbers(8, place, bit),
-            Reason::ColumnNotBelow { place, bit } => Numbers(9, place, bit),
-            Reason::Reserved { place, bit } => Numbers(10, place, bit),
+            Reason::StreamEnds { place, bit } => Numbered(6, place, bit),
+            Reason::RowStepTooLarge { place, bit } => Numbered(7, place, bit),
+            Reason::RowNotBelow { place, bit } => Numbered(8, place, bit),
+            Reason::ColumnNotBelow { place, bit } => Numbered(9, place, bit),
+            Reason::Reserved { place, bit } => Numbered(10, place, bit),
         },
-        Refusal::RowNotBelow { place } => Numbers(8, place, 0),
-        Refusal::Reserved { place } => Numbers(10, place, 0),
-        Refusal::NotAbove { place } => Numbers(11, place, 0),
-        Refusal::ItemNotBelow { place } => Numbers(12, place, 0),
-        Refusal::CannotGrow => Numbers(13, 0, 0),
-        Refusal::WrongWindow { place } => Numbers(14, place, 0),
-        Refusal::NotLawful => Numbers(15, 0, 0),
-        Refusal::SeedsDiffer => Numbers(16, 0, 0),
-        Refusal::WrongCoupons => Numbers(17, 0, 0),
+        Refusal::RowNotBelow { place } => Numbered(8, place, 0),
+        Refusal::Reserved { place } => Numbered(10, place, 0),
+        Refusal::NotAbove { place } => Numbered(11, place, 0),
+        Refusal::ItemNotBelow { place } => Numbered(12, place, 0),
+        Refusal::CannotGrow => Numbered(13, 0, 0),
+        Refusal::WrongWindow { place } => Numbered(14, place, 0),
+        Refusal::NotLawful => Numbered(15, 0, 0),
+        Refusal::SeedsDiffer => Numbered(16, 0, 0),
+        Refusal::WrongCoupons => Numbered(17, 0, 0),
     }
 }

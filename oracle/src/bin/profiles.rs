@@ -1,10 +1,11 @@
-//! Lists where debug and release part in what the Rust says: `profiles DEBUG RELEASE`, two files of
-//! answers that the oracle kept. It is a listing, not a test: an overflow panics in one profile and
-//! goes on in the other.
+//! Lists where debug and release part in what the Rust says: `profiles DEBUG RELEASE LIST`, two files
+//! of answers that the oracle kept, and one that gets every case where they differ. It is a listing, not
+//! a test: an overflow panics in one profile and goes on in the other.
 
 use std::collections::BTreeMap;
 use std::env;
 use std::fs::read_to_string;
+use std::fs::write;
 use std::io::Result;
 
 /// Ordered by call and class, then by the numbers of the input, so that the smallest comes first.
@@ -44,8 +45,8 @@ struct Group {
 
 fn main() -> Result<()> {
     let paths: Vec<String> = env::args().skip(1).collect();
-    let [debug, release] = &paths[..] else {
-        panic!("two files are wanted: profiles DEBUG RELEASE");
+    let [debug, release, list] = &paths[..] else {
+        panic!("three files are wanted: profiles DEBUG RELEASE LIST");
     };
     let (debug, release) = (read(debug)?, read(release)?);
     assert!(
@@ -53,18 +54,21 @@ fn main() -> Result<()> {
         "the two profiles were not asked the same"
     );
 
+    let mut listed = String::new();
     let mut groups: BTreeMap<(&str, &str), Group> = BTreeMap::new();
     for ((case, in_debug), in_release) in debug.iter().zip(release.values()) {
         let group = groups.entry((&case.call, &case.class)).or_default();
         group.cases += 1;
         if in_debug != in_release {
             group.apart += 1;
-            let input = &case.input;
-            let first = || format!("{input}: debug {in_debug}, release {in_release}");
-            group.first.get_or_insert_with(first);
+            let said = format!("{}: debug {in_debug}, release {in_release}", case.input);
+            listed += &format!("{} {said}\n", case.call);
+            group.first.get_or_insert(said);
         }
     }
-    println!("what the Rust says in debug and in release, on the chosen inputs of each class:");
+    write(list, listed)?;
+    println!("what the Rust says in debug and in release, on the chosen inputs of each class;");
+    println!("every case where they differ stands in oracle/{list}:");
     for (
         (call, class),
         Group {

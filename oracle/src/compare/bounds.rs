@@ -1,4 +1,4 @@
-//! Rows, against document 01; and what the design adds to it: the bound on a stream of n pairs, and the
+//! Rows, against document 01; and our own rules beside it: the bound on a stream of n pairs, and the
 //! ways between bits and words.
 
 use super::thresholds;
@@ -31,7 +31,7 @@ fn compare_rows() {
 }
 
 fn compare_most_bits(random_cases: u64) {
-    let mut cases = AgainstReading::of_design("most_bits");
+    let mut cases = AgainstReading::of_our_own("most_bits");
     let mut judge = |lg: u8, pairs: u32| {
         let input = format_args!("{lg} {pairs}");
         cases.judge(
@@ -59,7 +59,7 @@ fn compare_unit(
     reading: fn(u64) -> Answer,
     random_cases: u64,
 ) {
-    let mut cases = AgainstReading::of_design(name);
+    let mut cases = AgainstReading::of_our_own(name);
     let mut judge = |count: u64| cases.judge(count, ours(count), reading(count));
     let around_powers = (0..64).flat_map(|lg| {
         let power = 1u64 << lg;

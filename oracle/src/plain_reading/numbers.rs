@@ -78,7 +78,7 @@ pub fn base_bits(lg: u8, pairs: u32) -> Answer {
     of_rows(lg, |k| value(base_bits_of(k, pairs)))
 }
 
-/// The bound that the design sets over document 01's stream, in bits and in words. A pair is a code of
+/// Our own bound over document 01's stream, in bits and in words. A pair is a code of
 /// at most 12 bits, a one, b low bits, and its share of the zeros; all zeros together are fewer than
 /// 2n, since k / 2^b is; the pad is at most 10.
 pub fn most_bits(lg: u8, pairs: u32) -> Answer {

@@ -13,12 +13,12 @@ right-length-requires c κs = search needs
 returns : tie.Need-returns
 returns c =
     let call = c .before .right-length in
-    sym (ap (λ (b : Bool). b && eqb (c .before .before .args .m) 4096) (sym (call .ensures) ∙ not-true (call .result) (c .if1 .taken)))
+    sym (ap (λ (b : Bool). b && eqb (c .before .before .args .numbers) 4096) (sym (call .ensures) ∙ not-true (call .result) (c .if1 .taken)))
 
 returns-2 : tie.Need-returns-2
 returns-2 c =
     let call = c .before .right-length in
-    sym (ap (λ (b : Bool). b && eqb (c .before .before .args .m) 4096) (sym (call .ensures) ∙ not-false (call .result) (c .if1 .left)))
+    sym (ap (λ (b : Bool). b && eqb (c .before .before .args .numbers) 4096) (sym (call .ensures) ∙ not-false (call .result) (c .if1 .left)))
 
 pub right-lengths-spec : {M : Type 1} → statement M
 right-lengths-spec = tie.close (tie.spec right-length-requires returns returns-2)

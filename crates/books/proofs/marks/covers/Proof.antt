@@ -2,7 +2,7 @@
 use denote.Ref.{now}
 use Rattle.books.specs.Book.{oneSymbolEach}
 use Rattle.books.specs.Steps.{Full}
-use Rattle.books.proofs.Saying.{says-is}
+use Rattle.books.proofs.Deciding.{decides-is}
 use Rattle.books.proofs.Marking.{unmarked}
 use Rattle.books.proofs.Spreading.{full-passes, passes-full}
 use borrow.Author.Needs.{needs}
@@ -37,7 +37,7 @@ returns c =
     let b = now (st .args .book) in
     let marks = m .mark-all .last .1 .0 in
     let after = s .spread .last .0 in
-    says-is (Full after) (c .all-marked .result) (oneSymbolEach b) (c .all-marked .ensures)
+    decides-is (Full after) (c .all-marked .result) (oneSymbolEach b) (c .all-marked .ensures)
     (full-passes b marks after (st .pre .0) (m .mark-all .ensures) (s .spread .ensures) (st .pre .1))
     (passes-full b marks after (st .pre .0) (m .mark-all .ensures) (s .spread .ensures))
 

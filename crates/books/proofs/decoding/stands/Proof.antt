@@ -1,4 +1,4 @@
--- `books::entries::stands` meets its contract. Assumes nothing.
+-- `books::decoding::stands` meets its contract. Assumes nothing.
 use native.Mathlib.Omega.{arith}
 use mathlib.Core.Path.{_≡_, sym, ap, _∙_, subst}
 use Prim.Native.Nat.{ℕ, _+_, _-_, _*_, _%_, _≤_, _<_}
@@ -8,8 +8,8 @@ use lib.ListN.{length, getD}
 use Rattle.books.specs.Book.{lengthIn, codewordIn}
 use Rattle.books.specs.Steps.{Shape, entryOf}
 use borrow.Author.Needs.{needs}
-use Rattle.books.proofs.entries.stands.Statement.{statement}
-use Rattle.books.proofs.entries.stands.Tie as tie
+use Rattle.books.proofs.decoding.stands.Statement.{statement}
+use Rattle.books.proofs.decoding.stands.Tie as tie
 
 abbrev Inv-loop : tie.InvT-loop
 Inv-loop book table x₀ x = (x ≤ length book) × ((y : ℕ) → y < x → getD table (codewordIn (getD book y 0)) 0 ≡ entryOf book y)

@@ -1,4 +1,4 @@
--- `books::entries::level_repeats` meets its contract. Assumes nothing.
+-- `books::decoding::level_repeats` meets its contract. Assumes nothing.
 use native.Mathlib.Omega.{arith}
 use mathlib.Core.Path.{refl}
 use Prim.Native.Nat.{_-_}
@@ -6,8 +6,8 @@ use denote.Ref.{now}
 use lib.Dec.{eqb}
 use Rattle.books.proofs.Repeating.{Counted, counted-start, counted-turn, counted-end}
 use borrow.Author.Needs.{needs}
-use Rattle.books.proofs.entries.level_repeats.Statement.{statement}
-use Rattle.books.proofs.entries.level_repeats.Tie as tie
+use Rattle.books.proofs.decoding.level_repeats.Statement.{statement}
+use Rattle.books.proofs.decoding.level_repeats.Tie as tie
 
 abbrev Inv-loop : tie.InvT-loop
 Inv-loop table half limit count₀ m₀ count m = Counted table half limit count m

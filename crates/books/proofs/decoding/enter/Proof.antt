@@ -1,4 +1,4 @@
--- `books::entries::enter` meets its contract. Assumes nothing.
+-- `books::decoding::enter` meets its contract. Assumes nothing.
 use native.Mathlib.Omega.{arith}
 use mathlib.Core.Path.{_≡_}
 use Prim.Native.Nat.{_-_, _*_, _/_, _%_, _^_}
@@ -7,8 +7,8 @@ use Rattle.laws.proofs.Shifts.{one-shl}
 use Rattle.books.specs.Book.{lengthIn}
 use Rattle.books.proofs.Filling.{Entering, entering-start, entering-turn, entering-end}
 use borrow.Author.Needs.{needs}
-use Rattle.books.proofs.entries.enter.Statement.{statement}
-use Rattle.books.proofs.entries.enter.Tie as tie
+use Rattle.books.proofs.decoding.enter.Statement.{statement}
+use Rattle.books.proofs.decoding.enter.Tie as tie
 
 abbrev Inv-loop : tie.InvT-loop
 Inv-loop table₀ entry x value step n₀ table n = Entering table₀ table entry value step n

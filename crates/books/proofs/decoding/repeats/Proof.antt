@@ -1,15 +1,15 @@
--- `books::entries::repeats` meets its contract. Assumes nothing.
+-- `books::decoding::repeats` meets its contract. Assumes nothing.
 use native.Mathlib.Omega.{arith}
 use mathlib.Core.Path.{_≡_, refl, subst}
 use Prim.Native.Nat.{ℕ, _+_, _-_, _*_, _^_, _≤_, _<_}
 use denote.Ref.{now}
 use borrow.Author.Tests.{not-true, not-false}
 use Rattle.laws.proofs.Powers.{half-most, twice-half}
-use Rattle.books.specs.Steps.{Says, Repeats}
+use Rattle.books.specs.Steps.{Decides, Repeats}
 use Rattle.books.proofs.Repeating.{levels-turn, levels-stop}
 use borrow.Author.Needs.{needs}
-use Rattle.books.proofs.entries.repeats.Statement.{statement}
-use Rattle.books.proofs.entries.repeats.Tie as tie
+use Rattle.books.proofs.decoding.repeats.Statement.{statement}
+use Rattle.books.proofs.decoding.repeats.Tie as tie
 
 abbrev Inv-loop : tie.InvT-loop
 Inv-loop table bits₀ half₀ limit₀ bits half limit =
@@ -32,7 +32,7 @@ returns c =
     let t = now (h .before .before .args .table) in
     let call = c .before .level-repeats in
     levels-stop t (h .loop .bits) (h .loop .half) (h .loop .limit) (h .loop .inv .1) (h .loop .inv .2) (omega arith)
-    (subst (Says (Repeats t (h .loop .half) (h .loop .limit))) (not-true (call .result) (c .if1 .taken)) (call .ensures))
+    (subst (Decides (Repeats t (h .loop .half) (h .loop .limit))) (not-true (call .result) (c .if1 .taken)) (call .ensures))
 
 add-bits : tie.Need-add-bits Inv-loop μ-loop
 add-bits c = search needs
@@ -57,7 +57,7 @@ loop-again c =
       twice-half (h .loop .bits) (h .loop .half) (h .loop .inv .1),
       omega (arith, h .loop .inv .2),
       levels-turn t (h .loop .bits) (h .loop .half) (h .loop .limit) (h .loop .inv .1) (h .loop .inv .2) (h .loop .inv .3)
-          (subst (Says (Repeats t (h .loop .half) (h .loop .limit))) (not-false (call .result) (c .if1 .left)) (call .ensures)),
+          (subst (Decides (Repeats t (h .loop .half) (h .loop .limit))) (not-false (call .result) (c .if1 .left)) (call .ensures)),
     )
 
 returns-2 : tie.Need-returns-2 Inv-loop μ-loop

@@ -1,4 +1,4 @@
--- `books::entries::fill` meets its contract. Assumes nothing.
+-- `books::decoding::fill` meets its contract. Assumes nothing.
 use native.Mathlib.Omega.{arith}
 use mathlib.Core.Path.{sym, _∙_, subst}
 use Prim.Native.Nat.{_-_}
@@ -8,8 +8,8 @@ use Rattle.books.specs.Steps.{Shape}
 use Rattle.books.proofs.Agreement.{whole}
 use Rattle.books.proofs.Filling.{Filling, filling-start, filling-turn, filling-end}
 use borrow.Author.Needs.{needs}
-use Rattle.books.proofs.entries.fill.Statement.{statement}
-use Rattle.books.proofs.entries.fill.Tie as tie
+use Rattle.books.proofs.decoding.fill.Statement.{statement}
+use Rattle.books.proofs.decoding.fill.Tie as tie
 
 abbrev Inv-loop : tie.InvT-loop
 Inv-loop book table₀ x₀ table x = Filling book table x

@@ -6,7 +6,7 @@ ghost use lib.ListN.{length};
 ghost use Rattle.laws.specs.Below.{one};
 ghost use Rattle.books.specs.Book.{lengthIn, oneSymbolEach};
 ghost use Rattle.books.specs.Table.{tableOf, isTableOf};
-ghost use Rattle.books.specs.Steps.{Shape, AllShaped, taken, Says, breaks, Repeats, AllRepeat, Stands, Entered};
+ghost use Rattle.books.specs.Steps.{Shape, AllShaped, taken, Decides, breaks, Repeats, AllRepeat, Stands, Entered};
 use super::shapes::wide;
 
 // A symbol's entry in a decoding table.
@@ -28,7 +28,7 @@ fn one_if_broken(a: u16, b: u16, limit: u16) -> u16
 // the loop, so that it runs many at a time.
 fn level_repeats(table: &[u16], half: usize, limit: u16) -> bool
     requires { ⌜ (length (now table) ≡ 4096) × (half ≤ 2048) ⌝ }
-    ensures { λ r. ⌜ Says (Repeats (now (table .entry)) half limit) r ⌝ }
+    ensures { λ r. ⌜ Decides (Repeats (now (table .entry)) half limit) r ⌝ }
 {
     let mut count: u16 = 0;
     let mut m = 0;
@@ -42,7 +42,7 @@ fn level_repeats(table: &[u16], half: usize, limit: u16) -> bool
 // An entry of at most so many bits, length * 256 + symbol, is below (bits + 1) * 256.
 fn repeats(table: &[u16]) -> bool
     requires { ⌜ length (now table) ≡ 4096 ⌝ }
-    ensures { λ r. ⌜ Says (AllRepeat (now (table .entry))) r ⌝ }
+    ensures { λ r. ⌜ Decides (AllRepeat (now (table .entry))) r ⌝ }
 {
     let mut bits: usize = 0;
     let mut half: usize = 1;
@@ -61,7 +61,7 @@ fn repeats(table: &[u16]) -> bool
 // Each symbol's entry stands at its codeword.
 fn stands(book: &[u16], table: &[u16]) -> bool
     requires { ⌜ (length (now book) ≤ 256) × AllShaped (now book) × (length (now table) ≡ 4096) ⌝ }
-    ensures { λ r. ⌜ Says (Stands (now (book .entry)) (now (table .entry))) r ⌝ }
+    ensures { λ r. ⌜ Decides (Stands (now (book .entry)) (now (table .entry))) r ⌝ }
 {
     let mut x = 0;
     while x < book.len() {

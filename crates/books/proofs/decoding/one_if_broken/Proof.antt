@@ -1,4 +1,4 @@
--- `books::entries::one_if_broken` meets its contract. Assumes nothing.
+-- `books::decoding::one_if_broken` meets its contract. Assumes nothing.
 use native.Mathlib.Omega.{arith}
 use mathlib.Core.Path.{sym, ap, ap₂}
 use mathlib.Core.Logic.{⊎-elim}
@@ -6,8 +6,8 @@ use mathlib.Core.Bool.{Bool, not, _&&_}
 use borrow.Author.Tests.{lt-ltb, le-ltb}
 use lib.Dec.{eqb}
 use Rattle.laws.specs.Below.{one}
-use Rattle.books.proofs.entries.one_if_broken.Statement.{statement}
-use Rattle.books.proofs.entries.one_if_broken.Tie as tie
+use Rattle.books.proofs.decoding.one_if_broken.Statement.{statement}
+use Rattle.books.proofs.decoding.one_if_broken.Tie as tie
 
 returns : tie.Need-returns
 returns c =
