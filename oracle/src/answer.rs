@@ -2,6 +2,9 @@
 //! values; and the lent memory that it leaves behind.
 
 use std::fmt::Debug;
+use std::fmt::Display;
+
+use crate::listed::Listed;
 
 /// How many values an answer has room for, after the place and the bit.
 pub const VALUES: usize = 6;
@@ -38,10 +41,21 @@ impl Answer {
             ..Self::accepted(&[])
         }
     }
+
+    /// A reader's refusal, which has a bit position too.
+    pub fn stopped(number: u32, place: u64, bit: u64) -> Self {
+        Self {
+            bit,
+            ..Self::refused_at(number, place)
+        }
+    }
 }
 
 /// What the oracle compares. Each kind says in words what it holds.
 pub trait Outcome: PartialEq {
+    /// The number of the refusal, 0 if there is none.
+    fn number(&self) -> u32;
+
     fn say(&self) -> String;
 
     /// Where two outcomes part, if `say` is too short to show it.
@@ -51,6 +65,10 @@ pub trait Outcome: PartialEq {
 }
 
 impl Outcome for Answer {
+    fn number(&self) -> u32 {
+        self.number
+    }
+
     fn say(&self) -> String {
         let used = self.values.iter().rposition(|&value| value != 0);
         let values = self.values[..used.map_or(0, |last| last + 1)]
@@ -89,7 +107,21 @@ impl<T> Lent<T> {
     }
 }
 
+impl<T: Clone> Lent<T> {
+    /// As much as the Rust speaks of, where the first so many items are what was written or read.
+    pub fn spoken(&self, items: usize) -> Spoken<T> {
+        match self.answer.number {
+            0 => Spoken::Items(self.memory[..items.min(self.memory.len())].to_vec()),
+            number => Spoken::Refusal(number),
+        }
+    }
+}
+
 impl<T: Debug + PartialEq> Outcome for Lent<T> {
+    fn number(&self) -> u32 {
+        self.answer.number
+    }
+
     fn say(&self) -> String {
         let beyond = if self.surroundings_stay {
             ""
@@ -109,6 +141,30 @@ impl<T: Debug + PartialEq> Outcome for Lent<T> {
             "the lent memory parts at {place}: {:?} and {:?}",
             self.memory[place], other.memory[place]
         ))
+    }
+}
+
+/// What the Rust says of a stream: the items that it wrote or read, all of them, or the number of the
+/// refusal. It gives no place, no bit, and no items before a fault.
+#[derive(Clone, PartialEq, Eq)]
+pub enum Spoken<T> {
+    Items(Vec<T>),
+    Refusal(u32),
+}
+
+impl<T: Copy + Display + PartialEq> Outcome for Spoken<T> {
+    fn number(&self) -> u32 {
+        match self {
+            Spoken::Items(_) => 0,
+            Spoken::Refusal(number) => *number,
+        }
+    }
+
+    fn say(&self) -> String {
+        match self {
+            Spoken::Items(items) => format!("gives {} items: {}", items.len(), Listed::of(items)),
+            Spoken::Refusal(number) => format!("refuses {number}"),
+        }
     }
 }
 

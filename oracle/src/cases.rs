@@ -4,6 +4,7 @@
 //! In every case ours must answer what document 01 says (the plain reading). Outside of the intended
 //! classes the Rust must say the same.
 
+use std::collections::BTreeMap;
 use std::fmt::Display;
 use std::fs::File;
 use std::io::BufWriter;
@@ -32,6 +33,15 @@ pub enum Kind {
     Random,
 }
 
+/// What all sides say to one input.
+pub struct Sides<O, S = O> {
+    pub ours: O,
+    pub reading: O,
+    /// As much of ours as the Rust speaks of.
+    pub spoken: S,
+    pub rust: Said<S>,
+}
+
 /// What the Rust said wherever an intended class holds. A panic anywhere else ends the run.
 pub struct RustAnswers(BufWriter<File>);
 
@@ -55,7 +65,8 @@ pub struct AgainstRust<'a, I: 'static> {
     classes: &'static [Class<I>],
     seen: Vec<Option<Seen<I>>>,
     cases: u64,
-    equal: u64,
+    /// Where the Rust says the same, by the number of the refusal.
+    equal: BTreeMap<u32, u64>,
     rust_answers: &'a mut RustAnswers,
 }
 
@@ -78,25 +89,45 @@ impl<'a, I: Ord + Display> AgainstRust<'a, I> {
             classes,
             seen: classes.iter().map(|_| None).collect(),
             cases: 0,
-            equal: 0,
+            equal: BTreeMap::new(),
             rust_answers,
         }
     }
 
-    pub fn judge<O: Outcome>(&mut self, input: I, kind: Kind, ours: O, reading: O, rust: Said<O>) {
+    pub fn judge<O: Outcome, S: Outcome>(&mut self, input: I, kind: Kind, sides: Sides<O, S>) {
+        let Sides {
+            ours,
+            reading,
+            spoken,
+            rust,
+        } = sides;
         self.cases += 1;
         let holds = |class: &Class<I>| (class.holds)(&input);
         match self.classes.iter().position(holds) {
             Some(class) if ours == reading => self.count(class, input, kind, &ours, &rust),
-            None if ours == reading && rust.is(&ours) => self.equal += 1,
+            None if ours == reading && rust.is(&spoken) => {
+                *self.equal.entry(ours.number()).or_default() += 1
+            }
             _ => {
-                let theirs = [beside(&ours, READING, &reading), rust_beside(&ours, &rust)];
-                stop(self.call, input, &ours, theirs)
+                let reading = beside(&ours, READING, &reading);
+                stop(
+                    self.call,
+                    input,
+                    &ours,
+                    [reading, rust_beside(&spoken, &rust)],
+                )
             }
         }
     }
 
-    fn count<O: Outcome>(&mut self, class: usize, input: I, kind: Kind, ours: &O, rust: &Said<O>) {
+    fn count(
+        &mut self,
+        class: usize,
+        input: I,
+        kind: Kind,
+        ours: &impl Outcome,
+        rust: &Said<impl Outcome>,
+    ) {
         let rust = say(rust);
         if kind == Kind::Chosen {
             let name = self.classes[class].name;
@@ -118,11 +149,12 @@ impl<'a, I: Ord + Display> AgainstRust<'a, I> {
     }
 
     pub fn finish(self) {
-        let (cases, equal) = (self.cases, self.equal);
-        println!(
-            "{}: {cases} cases against the Rust, {equal} equal",
-            self.call
-        );
+        let (call, cases) = (self.call, self.cases);
+        let equal: u64 = self.equal.values().sum();
+        println!("{call}: {cases} cases against the Rust, {equal} equal");
+        for (number, cases) in self.equal.range(1..) {
+            println!("    equal, and both refuse {number}: {cases} cases");
+        }
         for (class, seen) in self.classes.iter().zip(self.seen) {
             if let Some(seen) = seen {
                 let Class { name, sides, .. } = class;
@@ -180,10 +212,11 @@ impl AgainstReading {
     }
 }
 
-fn say<O: Outcome>(rust: &Said<O>) -> String {
+fn say(rust: &Said<impl Outcome>) -> String {
     match rust {
         Said::Value(value) => value.say(),
         Said::Panic => "panics".to_string(),
+        Said::Unasked => "is not asked".to_string(),
     }
 }
 
@@ -198,7 +231,7 @@ fn beside<O: Outcome>(ours: &O, side: &str, theirs: &O) -> String {
 fn rust_beside<O: Outcome>(ours: &O, rust: &Said<O>) -> String {
     match rust {
         Said::Value(value) => beside(ours, "the Rust", value),
-        Said::Panic => "the Rust panics".to_string(),
+        silent => format!("the Rust {}", say(silent)),
     }
 }
 

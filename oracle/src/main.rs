@@ -7,6 +7,7 @@ mod answer;
 mod books;
 mod cases;
 mod compare;
+mod listed;
 mod ours;
 mod plain_reading;
 mod random;
@@ -18,11 +19,13 @@ use std::io::Result;
 use std::path::PathBuf;
 
 use crate::cases::RustAnswers;
+use crate::compare::streams;
 
 /// What the calls are tried on besides the chosen inputs.
 struct Effort {
     random_numbers: u64,
     random_book_sets: u64,
+    streams: streams::Effort,
 }
 
 /// Debug is there for the Rust's own checks, which the chosen inputs meet; it is slow, and tries less.
@@ -30,11 +33,23 @@ const EFFORT: Effort = if cfg!(debug_assertions) {
     Effort {
         random_numbers: 100_000,
         random_book_sets: 4,
+        streams: streams::Effort {
+            longest_list: 300,
+            step: 47,
+            zeros: 1 << 16,
+            huge: false,
+        },
     }
 } else {
     Effort {
         random_numbers: 3_000_000,
-        random_book_sets: 20,
+        random_book_sets: 60,
+        streams: streams::Effort {
+            longest_list: 4000,
+            step: 1,
+            zeros: 1 << 22,
+            huge: true,
+        },
     }
 };
 
@@ -58,9 +73,10 @@ fn main() -> Result<()> {
     compare::bounds::compare(EFFORT.random_numbers);
     compare::book_calls::compare(&sets);
     compare::practice::compare();
+    streams::compare(&sets, &mut rust_answers, &EFFORT.streams);
     rust_answers.finish()?;
     if let Some(path) = option("--sample") {
-        sample::write(&path)?;
+        sample::write(&path, &sets[0])?;
     }
     println!("0 differences");
     Ok(())

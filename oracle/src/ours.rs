@@ -4,6 +4,7 @@
 //! call fills its answer whole; it is handed one full of garbage, so that an unwritten part shows.
 
 use crate::answer::Answer;
+use crate::plain_reading::books::Coded;
 
 /// Place, bit, and the values.
 type Filled = [u64; 8];
@@ -37,6 +38,52 @@ unsafe extern "C" {
     fn bridgenook_practice_pair_book(book: *mut u16, symbols: usize, answer: *mut Filled) -> u32;
     fn bridgenook_practice_window_book(book: *mut u16, symbols: usize, answer: *mut Filled) -> u32;
     fn bridgenook_practice_pair_table(table: *mut u16, entries: usize, answer: *mut Filled) -> u32;
+    fn bridgenook_judge_pairs(lg: u8, pairs: *const u32, count: usize, answer: *mut Filled) -> u32;
+    fn bridgenook_write_pairs(
+        book: *const u16,
+        symbols: usize,
+        lg: u8,
+        pairs: *const u32,
+        count: usize,
+        out: *mut u8,
+        room: usize,
+        answer: *mut Filled,
+    ) -> u32;
+    fn bridgenook_read_pairs(
+        book: *const u16,
+        symbols: usize,
+        table: *const u16,
+        entries: usize,
+        lg: u8,
+        count: u32,
+        stream: *const u8,
+        bytes: usize,
+        out: *mut u32,
+        room: usize,
+        answer: *mut Filled,
+    ) -> u32;
+    fn bridgenook_write_window(
+        book: *const u16,
+        symbols: usize,
+        lg: u8,
+        window: *const u8,
+        rows: usize,
+        out: *mut u8,
+        room: usize,
+        answer: *mut Filled,
+    ) -> u32;
+    fn bridgenook_read_window(
+        book: *const u16,
+        symbols: usize,
+        table: *const u16,
+        entries: usize,
+        lg: u8,
+        stream: *const u8,
+        bytes: usize,
+        window: *mut u8,
+        rows: usize,
+        answer: *mut Filled,
+    ) -> u32;
 }
 
 const GARBAGE: u64 = 0xa5c3_96e1_0f78_5ad2;
@@ -135,5 +182,74 @@ pub fn practice_window_book(book: &mut [u16]) -> Answer {
 pub fn practice_pair_table(table: &mut [u16]) -> Answer {
     answered(|answer| unsafe {
         bridgenook_practice_pair_table(table.as_mut_ptr(), table.len(), answer)
+    })
+}
+
+pub fn judge_pairs(lg: u8, pairs: &[u32]) -> Answer {
+    answered(|answer| unsafe { bridgenook_judge_pairs(lg, pairs.as_ptr(), pairs.len(), answer) })
+}
+
+pub fn write_pairs(book: &[u16], lg: u8, pairs: &[u32], out: &mut [u8]) -> Answer {
+    answered(|answer| unsafe {
+        bridgenook_write_pairs(
+            book.as_ptr(),
+            book.len(),
+            lg,
+            pairs.as_ptr(),
+            pairs.len(),
+            out.as_mut_ptr(),
+            out.len(),
+            answer,
+        )
+    })
+}
+
+pub fn read_pairs(coded: Coded, lg: u8, count: u32, stream: &[u8], out: &mut [u32]) -> Answer {
+    answered(|answer| unsafe {
+        bridgenook_read_pairs(
+            coded.book.as_ptr(),
+            coded.book.len(),
+            coded.table.as_ptr(),
+            coded.table.len(),
+            lg,
+            count,
+            stream.as_ptr(),
+            stream.len(),
+            out.as_mut_ptr(),
+            out.len(),
+            answer,
+        )
+    })
+}
+
+pub fn write_window(book: &[u16], lg: u8, window: &[u8], out: &mut [u8]) -> Answer {
+    answered(|answer| unsafe {
+        bridgenook_write_window(
+            book.as_ptr(),
+            book.len(),
+            lg,
+            window.as_ptr(),
+            window.len(),
+            out.as_mut_ptr(),
+            out.len(),
+            answer,
+        )
+    })
+}
+
+pub fn read_window(coded: Coded, lg: u8, stream: &[u8], window: &mut [u8]) -> Answer {
+    answered(|answer| unsafe {
+        bridgenook_read_window(
+            coded.book.as_ptr(),
+            coded.book.len(),
+            coded.table.as_ptr(),
+            coded.table.len(),
+            lg,
+            stream.as_ptr(),
+            stream.len(),
+            window.as_mut_ptr(),
+            window.len(),
+            answer,
+        )
     })
 }

@@ -7,7 +7,9 @@ use std::panic::set_hook;
 use std::panic::take_hook;
 
 use datasketches::cpc::CpcSketch;
+use datasketches::error::Error;
 
+use crate::answer::Spoken;
 use crate::books::BookSet;
 use crate::plain_reading::books::decoding_table;
 
@@ -16,6 +18,8 @@ use crate::plain_reading::books::decoding_table;
 pub enum Said<V> {
     Value(V),
     Panic,
+    /// It would reserve gigabytes first.
+    Unasked,
 }
 
 impl<V> Said<V> {
@@ -30,6 +34,17 @@ impl<V> Said<V> {
         match self {
             Said::Value(value) => Said::Value(change(value)),
             Said::Panic => Said::Panic,
+            Said::Unasked => Said::Unasked,
+        }
+    }
+}
+
+impl<T> Said<Spoken<T>> {
+    /// The items of an answer to something lawful.
+    pub fn items(self) -> Vec<T> {
+        match self {
+            Said::Value(Spoken::Items(items)) => items,
+            _ => panic!("the Rust does not take what is lawful"),
         }
     }
 }
@@ -79,19 +94,39 @@ pub fn install(books: &BookSet) {
     CpcSketch::inside().install(with_table(books.pairs()), windows);
 }
 
-/// Writes a list of pairs and reads it back.
-pub fn pairs_there_and_back(pairs: &[u32], lg: u8) -> Said<Option<Vec<u32>>> {
-    listen(|| {
-        let stream = CpcSketch::inside().encode_pairs(pairs, lg);
-        let count = pairs.len() as u32;
-        CpcSketch::inside().decode_pairs(&stream, count, lg).ok()
-    })
+pub fn encode_pairs(pairs: &[u32], lg: u8) -> Said<Spoken<u8>> {
+    listen(|| CpcSketch::inside().encode_pairs(pairs, lg)).map(Spoken::Items)
 }
 
-/// Writes a window and reads it back.
-pub fn window_there_and_back(window: &[u8], lg: u8, coupons: u32) -> Said<Option<Vec<u8>>> {
-    listen(|| {
-        let stream = CpcSketch::inside().encode_window(window, lg, coupons);
-        CpcSketch::inside().decode_window(&stream, lg, coupons).ok()
-    })
+pub fn decode_pairs(stream: &[u8], count: u32, lg: u8) -> Said<Spoken<u32>> {
+    listen(|| CpcSketch::inside().decode_pairs(stream, count, lg)).map(spoken)
+}
+
+/// The coupons decide the phase, and so the book.
+pub fn encode_window(window: &[u8], lg: u8, coupons: u32) -> Said<Spoken<u8>> {
+    listen(|| CpcSketch::inside().encode_window(window, lg, coupons)).map(Spoken::Items)
+}
+
+pub fn decode_window(stream: &[u8], lg: u8, coupons: u32) -> Said<Spoken<u8>> {
+    listen(|| CpcSketch::inside().decode_window(stream, lg, coupons)).map(spoken)
+}
+
+fn spoken<T>(result: Result<Vec<T>, Error>) -> Spoken<T> {
+    match result {
+        Ok(items) => Spoken::Items(items),
+        Err(error) => Spoken::Refusal(number_of(error.message())),
+    }
+}
+
+/// Document 01's number for what the reader of `compression.rs` says. Its sixth message needs a run of
+/// 2^64 zeros.
+fn number_of(message: &str) -> u32 {
+    match message {
+        "CPC compressed stream is truncated" => 6,
+        "CPC pair row delta overflows" => 7,
+        "CPC pair row index is out of range" => 8,
+        "CPC pair column index is out of range" => 9,
+        "CPC pair uses the reserved empty-table sentinel" => 10,
+        other => panic!("document 01 has no number for: {other}"),
+    }
 }

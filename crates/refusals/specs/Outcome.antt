@@ -22,3 +22,9 @@ abbrev pub ifAccepted {ℓ} : {A : Type ℓ} → Outcome → A → A → A
 ifAccepted (accepted values) after before = after
 ifAccepted (refused number place) after before = before
 ifAccepted (stopped number place bit) after before = before
+
+-- one judgement after another: a refusal ends both
+abbrev pub andThen : Outcome → Outcome → Outcome
+andThen (accepted values) more = more
+andThen (refused number place) more = refused number place
+andThen (stopped number place bit) more = stopped number place bit

@@ -1,6 +1,4 @@
 // What is stored behind the inputs of a case, and whether an answer is that.
-use super::lists;
-use super::verdicts;
 use super::verdicts::Verdict;
 use super::words;
 use super::words::Number;
@@ -67,23 +65,23 @@ pub fn plain(line: &[u8], from: usize, result: u32, answer: &[u64; 8]) -> Verdic
     judge(line, from, words::count(line), result, answer)
 }
 
-// A case with a list behind its numbers: what was lent holds it afterwards.
-pub fn with_u16(
-    line: &[u8],
-    from: usize,
-    result: u32,
-    answer: &[u64; 8],
-    after: &[u16],
-) -> Verdict {
+// A case with a list behind its numbers: whether the numbers agree.
+pub fn before_list(line: &[u8], from: usize, result: u32, answer: &[u64; 8]) -> Verdict {
     let end = words::count(line);
     if end < 2 {
         return Verdict::NotACase;
     }
-    let to = end - 2;
-    if !words::is(line, to, b";") {
+    if !words::is(line, end - 2, b";") {
         return Verdict::NotACase;
     }
-    let numbers = judge(line, from, to, result, answer);
-    let list = lists::compare_u16(words::word(line, to + 1), after);
-    verdicts::both(numbers, list)
+    judge(line, from, end - 2, result, answer)
+}
+
+// The list behind the numbers, which what was lent holds afterwards: the last word.
+pub fn list(line: &[u8]) -> &[u8] {
+    let end = words::count(line);
+    if end < 1 {
+        return line;
+    }
+    words::word(line, end - 1)
 }

@@ -1,7 +1,8 @@
 // The calls of bridgenook's module book_calls.
 use super::answers;
-use super::lists;
+use super::lists_u16;
 use super::runs::Filled;
+use super::verdicts;
 use super::verdicts::Verdict;
 use super::words;
 use super::words::NumberU8;
@@ -10,29 +11,29 @@ use bridgenook::book_calls;
 fn check_book(line: &[u8]) -> Verdict {
     let mut space = [0u16; 8192];
     let book: &mut [u16] = &mut space;
-    let Filled::To(entries) = lists::read_u16(words::word(line, 1), book) else {
+    let Filled::To(entries) = lists_u16::read(words::word(line, 1), book) else {
         return Verdict::NotACase;
     };
     let mut answer = answers::unwritten();
-    let result = book_calls::bridgenook_check_book(lists::front_u16(book, entries), &mut answer);
+    let result = book_calls::bridgenook_check_book(lists_u16::front(book, entries), &mut answer);
     answers::plain(line, 2, result, &answer)
 }
 
 fn check_table(line: &[u8]) -> Verdict {
     let mut space = [0u16; 8192];
     let book: &mut [u16] = &mut space;
-    let Filled::To(entries) = lists::read_u16(words::word(line, 1), book) else {
+    let Filled::To(entries) = lists_u16::read(words::word(line, 1), book) else {
         return Verdict::NotACase;
     };
     let mut place = [0u16; 8192];
     let table: &mut [u16] = &mut place;
-    let Filled::To(numbers) = lists::read_u16(words::word(line, 2), table) else {
+    let Filled::To(numbers) = lists_u16::read(words::word(line, 2), table) else {
         return Verdict::NotACase;
     };
     let mut answer = answers::unwritten();
     let result = book_calls::bridgenook_check_table(
-        lists::front_u16(book, entries),
-        lists::front_u16(table, numbers),
+        lists_u16::front(book, entries),
+        lists_u16::front(table, numbers),
         &mut answer,
     );
     answers::plain(line, 3, result, &answer)
@@ -41,42 +42,43 @@ fn check_table(line: &[u8]) -> Verdict {
 fn fill_table(line: &[u8]) -> Verdict {
     let mut space = [0u16; 8192];
     let book: &mut [u16] = &mut space;
-    let Filled::To(entries) = lists::read_u16(words::word(line, 1), book) else {
+    let Filled::To(entries) = lists_u16::read(words::word(line, 1), book) else {
         return Verdict::NotACase;
     };
     let mut place = [0u16; 8192];
     let table: &mut [u16] = &mut place;
-    let Filled::To(numbers) = lists::read_u16(words::word(line, 2), table) else {
+    let Filled::To(numbers) = lists_u16::read(words::word(line, 2), table) else {
         return Verdict::NotACase;
     };
     let mut answer = answers::unwritten();
     let result = book_calls::bridgenook_fill_table(
-        lists::front_u16(book, entries),
-        lists::lent_u16(table, numbers),
+        lists_u16::front(book, entries),
+        lists_u16::lent(table, numbers),
         &mut answer,
     );
-    answers::with_u16(line, 3, result, &answer, lists::front_u16(table, numbers))
+    let said = answers::before_list(line, 3, result, &answer);
+    let after = lists_u16::compare(answers::list(line), lists_u16::front(table, numbers));
+    verdicts::both(said, after)
 }
 
 // The list behind the numbers is the part that `books::pick` hands back.
 fn pick(line: &[u8]) -> Verdict {
     let mut space = [0u16; 8192];
     let set: &mut [u16] = &mut space;
-    let Filled::To(entries) = lists::read_u16(words::word(line, 1), set) else {
+    let Filled::To(entries) = lists_u16::read(words::word(line, 1), set) else {
         return Verdict::NotACase;
     };
     let NumberU8::Is(phase) = words::u8_at(line, 2) else {
         return Verdict::NotACase;
     };
     let mut answer = answers::unwritten();
-    let result = book_calls::bridgenook_pick(lists::front_u16(set, entries), phase, &mut answer);
-    answers::with_u16(
-        line,
-        3,
-        result,
-        &answer,
-        books::pick(lists::front_u16(set, entries), phase),
-    )
+    let result = book_calls::bridgenook_pick(lists_u16::front(set, entries), phase, &mut answer);
+    let said = answers::before_list(line, 3, result, &answer);
+    let after = lists_u16::compare(
+        answers::list(line),
+        books::pick(lists_u16::front(set, entries), phase),
+    );
+    verdicts::both(said, after)
 }
 
 pub fn run(line: &[u8]) -> Verdict {

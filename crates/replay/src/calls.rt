@@ -2,6 +2,7 @@
 use super::book_calls;
 use super::number_calls;
 use super::practice_calls;
+use super::stream_calls;
 use super::unit_calls;
 use super::verdicts::Verdict;
 
@@ -18,5 +19,9 @@ pub fn run(line: &[u8]) -> Verdict {
     let Verdict::NoSuchCall = books else {
         return books;
     };
-    practice_calls::run(line)
+    let practice = practice_calls::run(line);
+    let Verdict::NoSuchCall = practice else {
+        return practice;
+    };
+    stream_calls::run(line)
 }

@@ -1,7 +1,8 @@
 // The calls of bridgenook's module practice_books.
 use super::answers;
-use super::lists;
+use super::lists_u16;
 use super::runs::Filled;
+use super::verdicts;
 use super::verdicts::Verdict;
 use super::words;
 use bridgenook::practice_books;
@@ -9,43 +10,49 @@ use bridgenook::practice_books;
 fn pair_book(line: &[u8]) -> Verdict {
     let mut space = [0u16; 8192];
     let out: &mut [u16] = &mut space;
-    let Filled::To(filled) = lists::read_u16(words::word(line, 1), out) else {
+    let Filled::To(filled) = lists_u16::read(words::word(line, 1), out) else {
         return Verdict::NotACase;
     };
     let mut answer = answers::unwritten();
     let result = practice_books::bridgenook_practice_pair_book(
-        lists::lent_u16(out, filled),
+        lists_u16::lent(out, filled),
         &mut answer,
     );
-    answers::with_u16(line, 2, result, &answer, lists::front_u16(out, filled))
+    let said = answers::before_list(line, 2, result, &answer);
+    let after = lists_u16::compare(answers::list(line), lists_u16::front(out, filled));
+    verdicts::both(said, after)
 }
 
 fn window_book(line: &[u8]) -> Verdict {
     let mut space = [0u16; 8192];
     let out: &mut [u16] = &mut space;
-    let Filled::To(filled) = lists::read_u16(words::word(line, 1), out) else {
+    let Filled::To(filled) = lists_u16::read(words::word(line, 1), out) else {
         return Verdict::NotACase;
     };
     let mut answer = answers::unwritten();
     let result = practice_books::bridgenook_practice_window_book(
-        lists::lent_u16(out, filled),
+        lists_u16::lent(out, filled),
         &mut answer,
     );
-    answers::with_u16(line, 2, result, &answer, lists::front_u16(out, filled))
+    let said = answers::before_list(line, 2, result, &answer);
+    let after = lists_u16::compare(answers::list(line), lists_u16::front(out, filled));
+    verdicts::both(said, after)
 }
 
 fn pair_table(line: &[u8]) -> Verdict {
     let mut space = [0u16; 8192];
     let out: &mut [u16] = &mut space;
-    let Filled::To(filled) = lists::read_u16(words::word(line, 1), out) else {
+    let Filled::To(filled) = lists_u16::read(words::word(line, 1), out) else {
         return Verdict::NotACase;
     };
     let mut answer = answers::unwritten();
     let result = practice_books::bridgenook_practice_pair_table(
-        lists::lent_u16(out, filled),
+        lists_u16::lent(out, filled),
         &mut answer,
     );
-    answers::with_u16(line, 2, result, &answer, lists::front_u16(out, filled))
+    let said = answers::before_list(line, 2, result, &answer);
+    let after = lists_u16::compare(answers::list(line), lists_u16::front(out, filled));
+    verdicts::both(said, after)
 }
 
 pub fn run(line: &[u8]) -> Verdict {

@@ -23,7 +23,8 @@ fn read(path: &str) -> Result<BTreeMap<Case, String>> {
         let [call, class, input, said] = parts[..] else {
             panic!("{path} has a line of another form: {line}");
         };
-        let numbers = input.split(' ').map_while(|token| token.parse().ok());
+        let runs = input.split(|character: char| !character.is_ascii_digit());
+        let numbers = runs.filter_map(|run| run.parse().ok());
         let case = Case {
             call: call.to_string(),
             class: class.to_string(),

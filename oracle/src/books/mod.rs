@@ -24,7 +24,7 @@ pub struct BookSet {
 }
 
 impl BookSet {
-    fn practice() -> Self {
+    pub fn practice() -> Self {
         let mut entries = practice::pair_book();
         for _ in 0..PHASES {
             entries.extend(practice::window_book());

@@ -9,6 +9,7 @@ use crate::cases::AgainstRust;
 use crate::cases::Class;
 use crate::cases::Kind;
 use crate::cases::RustAnswers;
+use crate::cases::Sides;
 use crate::ours;
 use crate::plain_reading::numbers as reading;
 use crate::random::Random;
@@ -124,7 +125,13 @@ impl NumberCall {
         let mut judge = |lg, count, kind| {
             let (ours, reading) = ((self.ours)(lg, count), (self.reading)(lg, count));
             let rust = (self.rust)(lg, count).map(|value| Answer::accepted(&[value]));
-            cases.judge(Input { lg, count }, kind, ours, reading, rust);
+            let sides = Sides {
+                ours,
+                reading,
+                spoken: ours,
+                rust,
+            };
+            cases.judge(Input { lg, count }, kind, sides);
         };
         for lg in 0..=u8::MAX {
             for count in (self.chosen)(lg) {

@@ -1,10 +1,10 @@
 //! Not a comparison with ours: the Rust reads back what it wrote with each book set. So the stand-in
 //! for its code tables hands it the books of the file, and the decoding tables that belong to them.
 
+use crate::answer::Spoken;
 use crate::books::BookSet;
 use crate::random::Random;
 use crate::rust;
-use crate::rust::Said;
 
 pub fn check(sets: &[BookSet]) {
     let mut random = Random::new(5);
@@ -25,10 +25,10 @@ pub fn check(sets: &[BookSet]) {
 
 fn check_window(lg: u8, coupons: u32, set: &BookSet, random: &mut Random) {
     let window: Vec<u8> = (0..1 << lg).map(|_| random.number() as u8).collect();
-    let back = rust::window_there_and_back(&window, lg, coupons);
-    let same = back == Said::Value(Some(window));
+    let stream = rust::encode_window(&window, lg, coupons).items();
+    let back = rust::decode_window(&stream, lg, coupons);
     assert!(
-        same,
+        back.is(&Spoken::Items(window)),
         "a window of {} at lg_k {lg}, {coupons} coupons, is not read back",
         set.name
     );
@@ -39,10 +39,10 @@ fn check_pairs(lg: u8, set: &BookSet, random: &mut Random) {
     let mut pairs: Vec<u32> = (0..wanted).map(|_| random.below(64 << lg) as u32).collect();
     pairs.sort_unstable();
     pairs.dedup();
-    let back = rust::pairs_there_and_back(&pairs, lg);
-    let same = back == Said::Value(Some(pairs));
+    let stream = rust::encode_pairs(&pairs, lg).items();
+    let back = rust::decode_pairs(&stream, pairs.len() as u32, lg);
     assert!(
-        same,
+        back.is(&Spoken::Items(pairs)),
         "a list of pairs of {} at lg_k {lg} is not read back",
         set.name
     );

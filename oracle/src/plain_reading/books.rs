@@ -12,6 +12,13 @@ pub const WINDOW_SYMBOLS: usize = 256;
 /// The window books of a set, one for each phase.
 pub const PHASES: usize = 22;
 
+/// A book and the decoding table that is lent with it.
+#[derive(Clone, Copy)]
+pub struct Coded<'a> {
+    pub book: &'a [u16],
+    pub table: &'a [u16],
+}
+
 pub fn entry(length: u16, codeword: u16) -> u16 {
     length * 4096 + codeword
 }

@@ -3,7 +3,7 @@
 use crate::answer::Answer;
 
 /// The rows k of a lawful lg_k, or refusal 1.
-fn lawful_rows(lg: u8) -> Result<u64, Answer> {
+pub fn lawful_rows(lg: u8) -> Result<u64, Answer> {
     match lg {
         4..=26 => Ok(1 << lg),
         _ => Err(Answer::refused(1)),
@@ -65,8 +65,7 @@ pub fn phase(lg: u8, coupons: u32) -> Answer {
     })
 }
 
-fn base_bits_of(k: u64, pairs: u32) -> u64 {
-    let n = u64::from(pairs);
+pub fn base_bits_of(k: u64, n: u64) -> u64 {
     if n == 0 || n > k {
         0
     } else {
@@ -75,7 +74,7 @@ fn base_bits_of(k: u64, pairs: u32) -> u64 {
 }
 
 pub fn base_bits(lg: u8, pairs: u32) -> Answer {
-    of_rows(lg, |k| value(base_bits_of(k, pairs)))
+    of_rows(lg, |k| value(base_bits_of(k, pairs.into())))
 }
 
 /// Our own bound over document 01's stream, in bits and in words. A pair is a code of
@@ -87,7 +86,7 @@ pub fn most_bits(lg: u8, pairs: u32) -> Answer {
         0 => Answer::accepted(&[0, 0]),
         _ if n > 1 << 28 => Answer::refused(4),
         _ => {
-            let bits = n * (15 + base_bits_of(k, pairs)) + 10;
+            let bits = n * (15 + base_bits_of(k, n)) + 10;
             Answer::accepted(&[bits, bits.div_ceil(32)])
         }
     })

@@ -3,19 +3,29 @@
 //! The names and the ways to index them are those that `compression.rs` and `sketch.rs` ask for.
 //! The contents are lent at run time, so that one process can try many books: see `install`.
 
+#[cfg(feature = "constants")]
+mod constants;
 mod inside;
 
 use std::cell::Cell;
 use std::ops::Index;
 
+#[cfg(feature = "constants")]
+pub use self::constants::LENGTH_LIMITED_UNARY_DECODING_TABLE65;
+#[cfg(feature = "constants")]
+pub use self::constants::LENGTH_LIMITED_UNARY_ENCODING_TABLE65;
+
 /// A book and the decoding table that belongs to it.
 type Coded = (Vec<u16>, Vec<u16>);
 
+/// Arrays, as the crate's own must be: so that a place which is surely inside costs no check. With
+/// constants for the pairs, theirs are not asked for.
+#[cfg_attr(feature = "constants", allow(dead_code))]
 struct Tables {
-    pair_book: Vec<u16>,
-    pair_table: Vec<u16>,
-    window_books: Vec<Vec<u16>>,
-    window_tables: Vec<Vec<u16>>,
+    pair_book: [u16; 65],
+    pair_table: [u16; 4096],
+    window_books: [[u16; 256]; 22],
+    window_tables: [[u16; 4096]; 22],
 }
 
 thread_local! {
@@ -26,14 +36,20 @@ thread_local! {
 ///
 /// They are never freed: what stands for a constant lives as long as the program.
 fn install(pairs: Coded, windows: Vec<Coded>) {
-    let (pair_book, pair_table) = pairs;
-    let (window_books, window_tables) = windows.into_iter().unzip();
+    let (window_books, window_tables): (Vec<_>, Vec<_>) = windows.into_iter().unzip();
     INSTALLED.set(Some(Box::leak(Box::new(Tables {
-        pair_book,
-        pair_table,
-        window_books,
-        window_tables,
+        pair_book: array(pairs.0),
+        pair_table: array(pairs.1),
+        window_books: array(window_books.into_iter().map(array).collect()),
+        window_tables: array(window_tables.into_iter().map(array).collect()),
     }))));
+}
+
+fn array<T, const LENGTH: usize>(list: Vec<T>) -> [T; LENGTH] {
+    let Ok(array) = list.try_into() else {
+        panic!("a book or a table is not of its length");
+    };
+    array
 }
 
 /// One of the crate's constants: it indexes the part of the installed tables that it names.
@@ -48,12 +64,15 @@ impl<T: Index<usize>> Index<usize> for Lent<T> {
     }
 }
 
-pub static LENGTH_LIMITED_UNARY_ENCODING_TABLE65: Lent<Vec<u16>> = Lent(|tables| &tables.pair_book);
-pub static LENGTH_LIMITED_UNARY_DECODING_TABLE65: Lent<Vec<u16>> =
+#[cfg(not(feature = "constants"))]
+pub static LENGTH_LIMITED_UNARY_ENCODING_TABLE65: Lent<[u16; 65]> =
+    Lent(|tables| &tables.pair_book);
+#[cfg(not(feature = "constants"))]
+pub static LENGTH_LIMITED_UNARY_DECODING_TABLE65: Lent<[u16; 4096]> =
     Lent(|tables| &tables.pair_table);
-pub static ENCODING_TABLES_FOR_HIGH_ENTROPY_BYTE: Lent<Vec<Vec<u16>>> =
+pub static ENCODING_TABLES_FOR_HIGH_ENTROPY_BYTE: Lent<[[u16; 256]; 22]> =
     Lent(|tables| &tables.window_books);
-pub static DECODING_TABLES_FOR_HIGH_ENTROPY_BYTE: Lent<Vec<Vec<u16>>> =
+pub static DECODING_TABLES_FOR_HIGH_ENTROPY_BYTE: Lent<[[u16; 4096]; 22]> =
     Lent(|tables| &tables.window_tables);
 
 /// The columns stay as they are. Only the crate's own file format permutes them, and that is not

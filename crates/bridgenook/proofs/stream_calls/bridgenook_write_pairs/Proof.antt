@@ -1,0 +1,23 @@
+-- `bridgenook::stream_calls::bridgenook_write_pairs` meets its contract. Assumes nothing.
+use borrow.Author.Needs.{needs}
+use Rattle.bridgenook.proofs.Saying.{says-as}
+use Rattle.bridgenook.proofs.stream_calls.bridgenook_write_pairs.Statement.{statement}
+use Rattle.bridgenook.proofs.stream_calls.bridgenook_write_pairs.Tie as tie
+
+write-pairs-requires : tie.Need-write-pairs-requires
+write-pairs-requires c κs = search needs
+
+say-write-requires : tie.Need-say-write-requires
+say-write-requires c κs = search needs
+
+same-length : tie.Need-same-length
+same-length c = search needs
+
+returns : tie.Need-returns
+returns c =
+    let call = c .before .before .before .before .write-pairs .ensures in
+    (says-as (call .0) (c .say-write .ensures), call .1)
+
+pub bridgenook-write-pairs-spec : {M : Type 1} → statement M
+bridgenook-write-pairs-spec =
+    tie.close (tie.spec write-pairs-requires say-write-requires same-length returns)

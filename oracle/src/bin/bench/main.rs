@@ -1,0 +1,29 @@
+//! Two tables of timings: the checks of books, and the streams of pairs beside the Rust. They are for
+//! reading; none of them is a test.
+
+// The modules are those of the comparison, and a benchmark needs a part of each.
+#![allow(dead_code)]
+
+#[path = "../../answer.rs"]
+mod answer;
+mod book_table;
+#[path = "../../books/mod.rs"]
+mod books;
+#[path = "../../listed.rs"]
+mod listed;
+#[path = "../../compare/streams/lists.rs"]
+mod lists;
+#[path = "../../ours.rs"]
+mod ours;
+#[path = "../../plain_reading/mod.rs"]
+mod plain_reading;
+#[path = "../../random.rs"]
+mod random;
+mod stream_table;
+mod timing;
+
+fn main() {
+    book_table::print();
+    println!();
+    stream_table::print();
+}
