@@ -1,4 +1,5 @@
 // A window put into a stream.
+// After src/cpc/compression.rs of the Rust crate datasketches 0.5.0 (Apache-2.0); changed: see lib.rt, and two codes go together.
 ghost use mathlib.Core.Path.{_≡_};
 ghost use mathlib.Core.List.{[], _∷_};
 ghost use Prim.Native.Nat.{_+_, _%_, _^_, _≤_, _<_};
