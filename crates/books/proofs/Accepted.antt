@@ -1,15 +1,16 @@
 -- What an accepted book and table give to readers and writers. Assumes nothing.
 use mathlib.Core.Path.{_≡_, _∙_}
-use mathlib.Core.Bool.{true, not, _&&_}
+use mathlib.Core.Bool.{Bool, true, not, _&&_}
 use mathlib.Core.List.{List, []}
 use Prim.Native.Nat.{ℕ, _/_, _%_, _≤_, _<_}
 use native.Mathlib.Omega.{arith}
-use borrow.Author.Tests.{not-false}
+use borrow.Author.Tests.{le-ltb, not-false}
+use lib.Dec.{ltb}
 use lib.ListN.{length, getD}
 use Rattle.laws.proofs.Truths.{and-left, and-right}
 use Rattle.laws.proofs.Lists.{length-listOf, getD-listOf}
 use Rattle.refusals.specs.Outcome.{accepted}
-use Rattle.books.specs.Book.{oneSymbolEach, sized}
+use Rattle.books.specs.Book.{firstMisshapen, oneSymbolEach, sized}
 use Rattle.books.specs.Table.{decoded, isTableOf, tableOf}
 use Rattle.books.specs.Calls.{judged, checkOf, checkTableOf}
 use Rattle.books.specs.Steps.{AllShaped, Hit, entryOf}
@@ -58,6 +59,28 @@ table-accepted book table e =
       matches book table (f .1) (all-shaped book (j .0)) (and-left (oneSymbolEach book) (isTableOf book table) (j .1)) (f .2)
           (table-at book table (and-right (oneSymbolEach book) (isTableOf book table) (j .1))),
     )
+
+-- an accepted check carries no values
+judged-values : (book : List ℕ) (rest : Bool) (values : List ℕ) → judged book rest ≡ accepted values → judged book rest ≡ accepted []
+judged-values book rest values e =
+    let b = took (ltb (firstMisshapen book) (length book)) _ 3 (firstMisshapen book) values e in
+    let c = took (not rest) (accepted []) 3 0 values (b .1) in
+    simp (b .0, c .0)
+
+pub table-values : (book table values : List ℕ) → checkTableOf book table ≡ accepted values → checkTableOf book table ≡ accepted []
+unfolding checkTableOf
+table-values book table values e =
+    let t = took (not (fit book table)) (judged book (oneSymbolEach book && isTableOf book table)) 2 0 values e in
+    simp (t .0) (judged-values book (oneSymbolEach book && isTableOf book table) values (t .1))
+
+-- a book whose table is accepted passes by itself
+pub table-checks : (book table : List ℕ) → checkTableOf book table ≡ accepted [] → checkOf book ≡ accepted []
+unfolding checkTableOf checkOf
+table-checks book table e =
+    let t = took (not (fit book table)) (judged book (oneSymbolEach book && isTableOf book table)) 2 0 [] e in
+    let j = judged-accepted book (oneSymbolEach book && isTableOf book table) (t .1) in
+    let f = fit-both book table (not-false (fit book table) (t .0)) in
+    simp (f .0, le-ltb (firstMisshapen book) (length book) (omega (arith, j .0)), and-left (oneSymbolEach book) (isTableOf book table) (j .1))
 
 -- a book that passes matches its own table
 pub own-table : (book : List ℕ) → checkOf book ≡ accepted [] → Matches book (tableOf book)

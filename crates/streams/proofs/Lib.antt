@@ -12,3 +12,4 @@ pub mod Lawful
 pub mod Windows
 pub mod Agree
 pub mod Bounded
+pub mod Demand
