@@ -9,6 +9,7 @@ mod counting;
 mod pair_reader;
 mod pair_writer;
 mod reader;
+mod step_reader;
 mod window_reader;
 mod window_writer;
 mod writer;

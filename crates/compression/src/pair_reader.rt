@@ -13,7 +13,8 @@ ghost use Rattle.compression.specs.Reading.{Stands, placeOf, Holds, Step
 use super::ReadAnswer;
 use super::reader;
 use super::reader::Cursor;
-use super::reader::Taken;
+use super::step_reader;
+use super::step_reader::Steps;
 use books::CheckAnswer;
 use numbers::NumberAnswer;
 use numbers::RowsAnswer;
@@ -138,20 +139,17 @@ fn next_pair(stream: &[u8], table: &[u16], b: u32, k: u64, state: State, place: 
     ensures { λ r. ⌜ SteppedBy k place (pairIs (now (stream .entry)) (now (table .entry)) b k state) r × CursorAfter (Stands (now (stream .entry))) r ⌝ }
 {
     let from = state.cursor;
-    match reader::take_code(stream, table, from) {
-        Taken::Ends(bit) => Stepped::Stops(Reason::StreamEnds { place, bit }),
-        Taken::Value(across, after) => match reader::take_row_step(stream, after, b) {
-            Taken::Ends(bit) => Stepped::Stops(Reason::StreamEnds { place, bit }),
-            Taken::Value(down, last) => judge(
-                k,
-                state,
-                across,
-                down,
-                last,
-                reader::bit_of(last),
-                place,
-            ),
-        },
+    match step_reader::take_steps(stream, table, b, from) {
+        Steps::Ends(bit) => Stepped::Stops(Reason::StreamEnds { place, bit }),
+        Steps::Taken(across, down, last) => judge(
+            k,
+            state,
+            across,
+            down,
+            last,
+            reader::bit_of(last),
+            place,
+        ),
     }
 }
 

@@ -33,7 +33,7 @@ use refusals::Refusal;
 use refusals::units::Words;
 
 // The b low bits of a number.
-fn low_bits(n: u64, b: u64) -> u64
+pub fn low_bits(n: u64, b: u64) -> u64
     requires { ⌜ b ≤ 26 ⌝ }
     ensures { λ r. ⌜ (r ≡ n % 2 ^ b) × (r < 2 ^ b) ⌝ }
 {

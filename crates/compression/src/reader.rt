@@ -51,13 +51,13 @@ fn wide(byte: u8) -> u64
     byte as u64
 }
 
-fn wide_entry(entry: u16) -> u64
+pub fn wide_entry(entry: u16) -> u64
     ensures { λ r. ⌜ (r ≡ entry) × (r < 65536) ⌝ }
 {
     entry as u64
 }
 
-fn index(look: u64) -> usize
+pub fn index(look: u64) -> usize
     ensures { λ r. ⌜ r ≡ look ⌝ }
 {
     look as usize
@@ -84,7 +84,7 @@ pub fn bit_of(cursor: Cursor) -> u64
 
 // At least `needed` bits in the buffer, by one more word where it has fewer.
 fn fill(stream: &[u8], cursor: Cursor, needed: u32) -> Filled
-    requires { ⌜ Stands (now stream) cursor × (needed ≤ 26) × (length (now stream) ≤ 2 ^ 30) ⌝ }
+    requires { ⌜ Stands (now stream) cursor × (needed ≤ 32) × (length (now stream) ≤ 2 ^ 30) ⌝ }
     ensures { λ r. ⌜ FilledBy (now (stream .entry)) cursor needed r ⌝ }
 {
     let held = cursor.held;
@@ -103,6 +103,17 @@ fn fill(stream: &[u8], cursor: Cursor, needed: u32) -> Filled
     })
 }
 
+// A word's bits or more in the buffer, unless the stream ends before them: one test serves the looks that follow.
+pub fn top_up(stream: &[u8], cursor: Cursor) -> Cursor
+    requires { ⌜ Stands (now stream) cursor × (length (now stream) ≤ 2 ^ 30) ⌝ }
+    ensures { λ r. ⌜ Stands (now (stream .entry)) r × (placeOf r ≡ placeOf cursor) ⌝ }
+{
+    match fill(stream, cursor, 32) {
+        Filled::Ready(full) => full,
+        Filled::Ends => cursor,
+    }
+}
+
 // A look at the next `count` bits, which stay to be read.
 fn look(stream: &[u8], cursor: Cursor, count: u32) -> Seen
     requires { ⌜ Stands (now stream) cursor × (count ≤ 26) × (length (now stream) ≤ 2 ^ 30) ⌝ }
@@ -115,8 +126,8 @@ fn look(stream: &[u8], cursor: Cursor, count: u32) -> Seen
 }
 
 // Past `count` bits that the buffer holds.
-fn skip(cursor: Cursor, count: u32) -> Cursor
-    requires { ⌜ (count ≤ cursor .held) × (count ≤ 26) ⌝ }
+pub fn skip(cursor: Cursor, count: u32) -> Cursor
+    requires { ⌜ (count ≤ cursor .held) × (count < 64) ⌝ }
     ensures { λ r. ⌜ ((s : List ℕ) → Stands s cursor → Stands s r × (placeOf r ≡ placeOf cursor + count)) ⌝ }
 {
     Cursor {
@@ -153,7 +164,7 @@ pub fn take_code(stream: &[u8], table: &[u16], cursor: Cursor) -> Taken
 }
 
 // The zeros before the lowest one of eight bits.
-fn zeros_in(bits: u64) -> u32
+pub fn zeros_in(bits: u64) -> u32
     requires { ⌜ (0 < bits) × (bits < 256) ⌝ }
     ensures { λ r. ⌜ (r ≡ trailingZeros 8 bits) × (r < 8) ⌝ }
 {
