@@ -3,7 +3,7 @@
 ghost use mathlib.Core.Path.{_≡_};
 ghost use mathlib.Core.Bool.{_&&_};
 ghost use mathlib.Core.List.{List};
-ghost use Prim.Native.Nat.{ℕ, _+_, _*_, _≤_, _<_, _^_};
+ghost use Prim.Native.Nat.{ℕ, _+_, _*_, _%_, _≤_, _<_, _^_};
 ghost use lib.Count.{trailingZeros};
 ghost use lib.Dec.{eqb, leb};
 ghost use lib.ListN.{length};
@@ -163,9 +163,9 @@ pub fn take_code(stream: &[u8], table: &[u16], cursor: Cursor) -> Taken
     }
 }
 
-// The zeros before the lowest one of eight bits.
+// The zeros before the lowest one, where that is among the low eight bits.
 pub fn zeros_in(bits: u64) -> u32
-    requires { ⌜ (0 < bits) × (bits < 256) ⌝ }
+    requires { ⌜ 0 < bits % 256 ⌝ }
     ensures { λ r. ⌜ (r ≡ trailingZeros 8 bits) × (r < 8) ⌝ }
 {
     u64::trailing_zeros(bits)

@@ -47,7 +47,7 @@ fn steps_at_once(cursor: Cursor, entry: u64, rest: u64, b: u32) -> Steps
     requires { ⌜ (rest ≡ cursor .buffer / 2 ^ (entry / 256)) × (0 < rest % 256) ⌝ }
     ensures { λ r. ⌜ ((stream table : List ℕ) → Stands stream cursor → entry ≡ getD table (cursor .buffer % 4096) 0 → StepsBy stream table b (placeOf cursor) r) ⌝ }
 {
-    let zeros = reader::zeros_in(rest % 256);
+    let zeros = reader::zeros_in(rest);
     let low = low_bits(rest >> (zeros + 1), b as u64);
     let down = ((zeros as u64) << b) + low;
     let last = reader::skip(cursor, (entry / 256) as u32 + zeros + 1 + b);

@@ -1,8 +1,9 @@
 -- `compression::step_reader::steps_at_once` meets its contract. Assumes nothing.
-use mathlib.Core.Path.{ap, _∙_, subst}
+use mathlib.Core.Path.{sym, ap, _∙_, subst}
 use Prim.Native.Nat.{ℕ, _+_, _/_, _%_, _^_, _<_}
 use native.Mathlib.Omega.{arith}
 use lib.Count.{trailingZeros}
+use Rattle.streams.proofs.Zeros.{zeros-mod}
 use Rattle.compression.specs.Reading.{placeOf}
 use Rattle.compression.proofs.LookingFields.{row-exact, row-fits}
 use Rattle.compression.proofs.StepsAtOnce.{both-steps}
@@ -66,7 +67,7 @@ returns c =
     let after = c .skip .ensures stream st in (
       both-steps stream table (a .b) (a .cursor) st (a .entry) is (start .pre .0 .3) (start .pre .0 .0) (z .result)
           (subst (λ (r : ℕ). 0 < r % 256) rest-is (start .pre .1 .1))
-          (z .ensures .0 ∙ ap (λ (r : ℕ). trailingZeros 8 (r % 256)) rest-is) (z .ensures .1) (low .result) _ (placeOf (c .skip .result))
+          (z .ensures .0 ∙ sym (zeros-mod 8 (a .rest)) ∙ ap (λ (r : ℕ). trailingZeros 8 (r % 256)) rest-is) (z .ensures .1) (low .result) _ (placeOf (c .skip .result))
           (low .ensures .0 ∙ ap (λ (r : ℕ). r / 2 ^ (z .result + 1) % 2 ^ a .b) rest-is)
           (ap (λ (x : ℕ). x + low .result) (row-exact (z .result) (a .b) (omega (arith, z .ensures .1)) (start .pre .0 .2))) (after .1),
       after .0,
