@@ -47,6 +47,14 @@ matches book table short s one size h = record { shaped = s; decodes = record { 
         let e = matched (w .0) n (w .1) l (w .2) in
         omega (arith, w .1)
 
+-- a table that passes holds what the book says
+pub table-holds : (book table : List ℕ) → checkTableOf book table ≡ accepted [] → (n : ℕ) → n < 4096 → getD table n 0 ≡ decoded book n
+unfolding checkTableOf
+table-holds book table e =
+    let t = took (not (fit book table)) (judged book (oneSymbolEach book && isTableOf book table)) 2 0 [] e in
+    let j = judged-accepted book (oneSymbolEach book && isTableOf book table) (t .1) in
+    table-at book table (and-right (oneSymbolEach book) (isTableOf book table) (j .1))
+
 -- what an accepted check of a lent table gives
 pub table-accepted : (book table : List ℕ) → checkTableOf book table ≡ accepted [] → (sized book ≡ true) × Matches book table
 unfolding checkTableOf
@@ -56,7 +64,7 @@ table-accepted book table e =
     let f = fit-both book table (not-false (fit book table) (t .0)) in (
       f .0,
       matches book table (f .1) (all-shaped book (j .0)) (and-left (oneSymbolEach book) (isTableOf book table) (j .1)) (f .2)
-          (table-at book table (and-right (oneSymbolEach book) (isTableOf book table) (j .1))),
+          (table-holds book table e),
     )
 
 -- a book that passes matches its own table

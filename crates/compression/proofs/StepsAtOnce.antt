@@ -1,12 +1,12 @@
 -- Both steps of a pair out of one buffer: each look finds what it would find alone. Assumes nothing.
-use mathlib.Core.Path.{_≡_, refl, sym, ap, _∙_}
+use mathlib.Core.Path.{_≡_, refl, _∙_}
 use mathlib.Core.List.{List}
 use Prim.Native.Nat.{ℕ, _+_, _*_, _/_, _%_, _^_, _≤_, _<_}
 use native.Mathlib.Omega.{arith}
 use lib.Count.{trailingZeros}
 use lib.ListN.{getD}
 use Rattle.streams.specs.Stream.{number, wordBits}
-use Rattle.streams.specs.Looks.{found, fieldAt, codeAt, zerosAt, rowStepAt}
+use Rattle.streams.specs.Looks.{found, fieldAt, codeAt, zerosAt}
 use Rattle.streams.specs.Read.{pairAt}
 use Rattle.compression.specs.Reading.{placeOf, Stands, Holds, judgedStep}
 use Rattle.compression.specs.declared.reader.Cursor.{Cursor}

@@ -7,10 +7,10 @@ ghost use lib.ListN.{length};
 ghost use Rattle.books.specs.Told.{toldCheck};
 ghost use Rattle.books.specs.Uses.{Decodes};
 ghost use Rattle.streams.specs.Stream.{number, wordBits};
-ghost use Rattle.streams.specs.Written.{predicted};
 ghost use Rattle.streams.specs.Read.{pairsFrom};
 ghost use Rattle.compression.specs.Reading.{Stands, placeOf, Holds, SteppedBy, CursorAfter, judgedStep, pairIs, ReadBy, SizesBy, roomJudged, pairsPartsJudged};
 use super::ReadAnswer;
+use super::common::predict;
 use super::reader;
 use super::reader::Cursor;
 use super::step_reader;
@@ -84,14 +84,6 @@ pub fn judge_parts(
         CheckAnswer::Refused(why) => CheckAnswer::Refused(why),
         CheckAnswer::Passes => judge_room(count, room),
     }
-}
-
-// The column to step from: 0 when the row changes.
-fn predict(step: u64, next: u64) -> u64
-    requires { ⌜ next ≤ 64 ⌝ }
-    ensures { λ r. ⌜ (r ≡ predicted step next) × (r ≤ 64) ⌝ }
-{
-    if step == 0 { next } else { 0 }
 }
 
 // The pair that a column step and a row step lead to, with the cursor after it, which stands at `bit`.

@@ -11,6 +11,9 @@ ghost use Rattle.books.specs.Uses.{Decodes};
 ghost use Rattle.streams.specs.Stream.{number, wordBits, bitsAt};
 ghost use Rattle.streams.specs.Looks.{fieldAt, zerosAt, rowStepAt};
 ghost use Rattle.compression.specs.Reading.{Stands, placeOf, FilledBy, SeenBy, TakenBy, codeIs};
+use super::common::index;
+use super::common::wide_byte;
+use super::common::wide_entry;
 
 pub struct Cursor {
     pub buffer: u64,
@@ -45,33 +48,15 @@ pub fn begin() -> Cursor
     }
 }
 
-fn wide(byte: u8) -> u64
-    ensures { λ r. ⌜ (r ≡ byte) × (r < 256) ⌝ }
-{
-    byte as u64
-}
-
-pub fn wide_entry(entry: u16) -> u64
-    ensures { λ r. ⌜ (r ≡ entry) × (r < 65536) ⌝ }
-{
-    entry as u64
-}
-
-pub fn index(look: u64) -> usize
-    ensures { λ r. ⌜ r ≡ look ⌝ }
-{
-    look as usize
-}
-
 // The 32-bit little-endian word at a byte.
 fn word_at(stream: &[u8], i: usize) -> u64
     requires { ⌜ i + 4 ≤ length (now stream) ⌝ }
     ensures { λ r. ⌜ r ≡ bitsAt (number (now (stream .entry))) (8 * i) 32 ⌝ }
 {
-    wide(stream[i])
-        + wide(stream[i + 1]) * 0x100
-        + wide(stream[i + 2]) * 0x1_0000
-        + wide(stream[i + 3]) * 0x100_0000
+    wide_byte(stream[i])
+        + wide_byte(stream[i + 1]) * 0x100
+        + wide_byte(stream[i + 2]) * 0x1_0000
+        + wide_byte(stream[i + 3]) * 0x100_0000
 }
 
 // The bit at which the cursor stands.

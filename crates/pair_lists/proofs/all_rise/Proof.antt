@@ -2,7 +2,6 @@
 use borrow.Author.Needs.{needs}
 use native.Mathlib.Omega.{arith}
 use Prim.Native.Nat.{_-_}
-use denote.Ref.{now}
 use lib.ListN.{length}
 use Rattle.pair_lists.proofs.RisingPairs.{Rising, rising-start, rising-turn, rising-end}
 use Rattle.pair_lists.proofs.all_rise.Statement.{statement}
