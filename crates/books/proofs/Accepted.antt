@@ -48,6 +48,14 @@ matches book table short s one size h = record { shaped = s; decodes = record { 
         let e = matched (w .0) n (w .1) l (w .2) in
         omega (arith, w .1)
 
+-- a table that passes holds what the book says
+pub table-holds : (book table : List ℕ) → checkTableOf book table ≡ accepted [] → (n : ℕ) → n < 4096 → getD table n 0 ≡ decoded book n
+unfolding checkTableOf
+table-holds book table e =
+    let t = took (not (fit book table)) (judged book (oneSymbolEach book && isTableOf book table)) 2 0 [] e in
+    let j = judged-accepted book (oneSymbolEach book && isTableOf book table) (t .1) in
+    table-at book table (and-right (oneSymbolEach book) (isTableOf book table) (j .1))
+
 -- what an accepted check of a lent table gives
 pub table-accepted : (book table : List ℕ) → checkTableOf book table ≡ accepted [] → (sized book ≡ true) × Matches book table
 unfolding checkTableOf
@@ -57,7 +65,7 @@ table-accepted book table e =
     let f = fit-both book table (not-false (fit book table) (t .0)) in (
       f .0,
       matches book table (f .1) (all-shaped book (j .0)) (and-left (oneSymbolEach book) (isTableOf book table) (j .1)) (f .2)
-          (table-at book table (and-right (oneSymbolEach book) (isTableOf book table) (j .1))),
+          (table-holds book table e),
     )
 
 -- an accepted check carries no values
@@ -66,6 +74,12 @@ judged-values book rest values e =
     let b = took (ltb (firstMisshapen book) (length book)) _ 3 (firstMisshapen book) values e in
     let c = took (not rest) (accepted []) 3 0 values (b .1) in
     simp (b .0, c .0)
+
+pub book-values : (book values : List ℕ) → checkOf book ≡ accepted values → checkOf book ≡ accepted []
+unfolding checkOf
+book-values book values e =
+    let t = took (not (sized book)) (judged book (oneSymbolEach book)) 2 0 values e in
+    simp (t .0) (judged-values book (oneSymbolEach book) values (t .1))
 
 pub table-values : (book table values : List ℕ) → checkTableOf book table ≡ accepted values → checkTableOf book table ≡ accepted []
 unfolding checkTableOf

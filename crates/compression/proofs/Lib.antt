@@ -3,6 +3,7 @@ pub mod ReaderBuffer
 pub mod ZerosLooks
 pub mod LookingFields
 pub mod ReadingSteps
+pub mod StepsAtOnce
 pub mod ReadingFront
 pub mod ReadingPairs
 pub mod ReadingWindow

@@ -23,7 +23,7 @@ begin-stands s c h n b = record {
   holds = b ∙ sym (ap (bitsAt (number s) (placeOf c)) h ∙ mod-one _);
 }
 
-abbrev skipped : Cursor → ℕ → Cursor
+abbrev pub skipped : Cursor → ℕ → Cursor
 skipped c count = record { buffer = c .buffer / 2 ^ count; held = c .held - count; next = c .next }
 
 pub skip-stands : (s : List ℕ) (c : Cursor) (count : ℕ) → Stands s c → count ≤ c .held → Stands s (skipped c count)
@@ -44,7 +44,7 @@ skip-stands s c count st h =
 abbrev filledUp : Cursor → ℕ → Cursor
 filledUp c word = record { buffer = bitOr (c .buffer) ((word * 2 ^ c .held) % 2 ^ 64); held = c .held + 32; next = c .next + 4 }
 
-pub fill-stands : (s : List ℕ) (c : Cursor) (word : ℕ) → Stands s c → c .held < 26 → c .next + 4 ≤ length s
+pub fill-stands : (s : List ℕ) (c : Cursor) (word : ℕ) → Stands s c → c .held < 32 → c .next + 4 ≤ length s
     → word ≡ bitsAt (number s) (8 * c .next) 32 → Stands s (filledUp c word)
 fill-stands s c word st h room w =
     let at : placeOf (filledUp c word) ≡ placeOf c = omega arith in
@@ -66,14 +66,18 @@ fill-stands s c word st h room w =
           ∙ ap (λ (x : ℕ). bitsAt n x (c .held + 32)) (sym at);
     }
 
+-- the low bits of the buffer are the next bits of the stream
+pub held-bits : (s : List ℕ) (f : Cursor) (count : ℕ) → Stands s f → count ≤ f .held → f .buffer % 2 ^ count ≡ bitsAt (number s) (placeOf f) count
+held-bits s f count st h =
+    let j : ℕ = f .held - count in
+    let e : f .held ≡ j + count = omega arith in
+    ap (λ (x : ℕ). x % 2 ^ count) (st .holds ∙ ap (bitsAt (number s) (placeOf f)) e) ∙ front (number s) (placeOf f) count j
+
 pub look-bits : (s : List ℕ) (f : Cursor) (at count : ℕ) → Stands s f → placeOf f ≡ at → count ≤ f .held → count < 64
     → bitAnd (f .buffer) ((1 * 2 ^ count) % 2 ^ 64 - 1) ≡ bitsAt (number s) at count
 look-bits s f at count st p h l =
-    let j : ℕ = f .held - count in
-    let e : f .held ≡ j + count = omega arith in
-    ap (λ (x : ℕ). bitAnd (f .buffer) (x - 1)) (one-shl count l) ∙ and-mask (f .buffer) count
-    ∙ ap (λ (x : ℕ). x % 2 ^ count) (st .holds ∙ ap (bitsAt (number s) (placeOf f)) e)
-    ∙ front (number s) (placeOf f) count j ∙ ap (λ (x : ℕ). bitsAt (number s) x count) p
+    ap (λ (x : ℕ). bitAnd (f .buffer) (x - 1)) (one-shl count l) ∙ and-mask (f .buffer) count ∙ held-bits s f count st h
+    ∙ ap (λ (x : ℕ). bitsAt (number s) x count) p
 
 -- what the buffer holds ends within the last whole word
 pub inside-words : (s : List ℕ) (f : Cursor) → Stands s f → placeOf f + f .held ≤ wordBits s

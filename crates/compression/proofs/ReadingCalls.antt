@@ -9,20 +9,17 @@ use lib.Dec.{eqb, leb, ltb}
 use lib.ListN.{length}
 use Rattle.laws.specs.Choose.{choose}
 use Rattle.laws.proofs.Truths.{and-left, and-right}
-use Rattle.refusals.specs.Outcome.{Outcome, accepted, refused, stopped, ifAccepted, andThen}
+use Rattle.refusals.specs.Outcome.{Outcome, accepted, refused, ifAccepted, andThen}
 use Rattle.refusals.specs.Told.{told}
 use Rattle.refusals.specs.declared.Refusal.{Refusal}
 use Rattle.refusals.proofs.Only.{never-accepted}
-use Rattle.refusals.proofs.Refusing.{Refuses, by-place, by-bit, refuses, kept}
+use Rattle.refusals.proofs.Refusing.{kept, stays, both-accepted}
 use Rattle.numbers.specs.Numbers.{baseBitsAt}
 use Rattle.numbers.specs.Calls.{outside, baseBitsOf}
-use Rattle.books.specs.Book.{firstMisshapen, oneSymbolEach}
-use Rattle.books.specs.Table.{isTableOf}
-use Rattle.books.specs.Calls.{judged, checkTableOf}
+use Rattle.books.specs.Calls.{checkTableOf}
 use Rattle.books.specs.Uses.{Decodes}
-use Rattle.books.proofs.Accepted.{table-accepted}
-use Rattle.books.proofs.Agreement.{table-at}
-use Rattle.books.proofs.Verdicts.{took, judged-accepted, fit}
+use Rattle.books.proofs.Accepted.{table-accepted, table-holds, table-values}
+use Rattle.books.proofs.Verdicts.{took}
 use Rattle.streams.specs.Stream.{number, wordBits}
 use Rattle.streams.specs.Read.{Reading, pairsFrom, bytesFrom}
 use Rattle.streams.specs.Calls.{readOutcome, readInto, pairsReading, readPairsJudged, readPairsOf, pairsRead, windowReading, readWindowJudged, readWindowOf, windowRead}
@@ -31,13 +28,6 @@ use Rattle.compression.specs.Reading.{Holds, roomJudged, pairsPartsJudge
 use Rattle.compression.specs.declared.ReadAnswer.{ReadAnswer}
 
 -- ---- what was judged first decides the call, or else the reading does
-
-stays-by : (o more : Outcome) → Refuses o → andThen o more ≡ o
-stays-by (refused number place) more by-place = refl
-stays-by (stopped number place bit) more by-bit = refl
-
-stays : (why : Refusal) (more : Outcome) → andThen (told why) more ≡ told why
-stays why more = stays-by (told why) more (refuses why)
 
 pub call-refused : (first more : Outcome) (after before : List ℕ) (why : Refusal) → told why ≡ first
     → (told why ≡ andThen first more) × (before ≡ ifAccepted first after before)
@@ -56,36 +46,10 @@ pub record Lent (book table : List ℕ) : Type 0 where
   pub decodes : Decodes 256 table
   pub holds : Holds book table
 
-table-holds : (book table : List ℕ) → checkTableOf book table ≡ accepted [] → Holds book table
-unfolding checkTableOf
-table-holds book table e =
-    let t = took (not (fit book table)) (judged book (oneSymbolEach book && isTableOf book table)) 2 0 [] e in
-    let j = judged-accepted book (oneSymbolEach book && isTableOf book table) (t .1) in
-    table-at book table (and-right (oneSymbolEach book) (isTableOf book table) (j .1))
-
 pub lent : (book table : List ℕ) → checkTableOf book table ≡ accepted [] → Lent book table
 lent book table e =
     let d = table-accepted book table e .1 .decodes in
     record { decodes = record { size = d .size; lengths = d .lengths; symbol = λ n l. omega arith }; holds = table-holds book table e }
-
--- a chain of tests accepts with no values
-no-values : (a b c : Bool) (place : ℕ) (values : List ℕ)
-    → choose a (refused 2 0) (choose b (refused 3 place) (choose c (refused 3 0) (accepted []))) ≡ accepted values
-    → choose a (refused 2 0) (choose b (refused 3 place) (choose c (refused 3 0) (accepted []))) ≡ accepted []
-no-values true b c place values e = let z : _≡_ {A = ℕ} 0 1 = cc in absurd (omega arith)
-no-values false true c place values e = let z : _≡_ {A = ℕ} 0 1 = cc in absurd (omega arith)
-no-values false false true place values e = let z : _≡_ {A = ℕ} 0 1 = cc in absurd (omega arith)
-no-values false false false place values e = refl
-
-check-values : (book table : List ℕ) (values : List ℕ) → checkTableOf book table ≡ accepted values → checkTableOf book table ≡ accepted []
-unfolding checkTableOf
-check-values book table values e =
-    no-values (not (fit book table)) (ltb (firstMisshapen book) (length book)) (not (oneSymbolEach book && isTableOf book table)) (firstMisshapen book) values e
-
-then-by : (o more : Outcome) → andThen o more ≡ accepted [] → ((values : List ℕ) × (o ≡ accepted values)) × (more ≡ accepted [])
-then-by (accepted values) more e = ((values, refl), e)
-then-by (refused number place) more e = let z : _≡_ {A = ℕ} 0 1 = cc in absurd (omega arith)
-then-by (stopped number place bit) more e = let z : _≡_ {A = ℕ} 0 1 = cc in absurd (omega arith)
 
 -- ---- the parts for pairs
 
@@ -99,11 +63,11 @@ pub pairs-lent : (book table : List ℕ) (count : ℕ) (stream : List ℕ) (room
 pairs-lent book table count stream room e =
     let t = took (not right) (andThen (checkTableOf book table) (roomJudged count room)) 2 0 [] (sym e) in
     let r = not-false right (t .0) in
-    let b = then-by (checkTableOf book table) (roomJudged count room) (t .1) in
+    let b = both-accepted (checkTableOf book table) (roomJudged count room) [] (t .1) in
     let few = took (ltb (2 ^ 28) count) (choose (ltb room count) (refused 5 0) (accepted [])) 4 0 [] (b .1) in
     let fits = took (ltb room count) (accepted []) 5 0 [] (few .1) in
     record {
-      parts = lent book table (check-values book table (b .0 .0) (b .0 .1));
+      parts = lent book table (table-values book table (b .0 .0) (b .0 .1));
       short = leb-true (length stream) (2 ^ 30) (and-right (eqb (length table) 4096) _ (and-right (eqb (length book) 65) _ r));
       fits = ltb-false room count (fits .0);
     }

@@ -11,12 +11,6 @@ use Rattle.compression.specs.declared.reader.Cursor.{Cursor}
 use Rattle.compression.specs.declared.pair_reader.Stepped.{Stepped}
 use Rattle.compression.specs.declared.pair_reader.Stepped.the-variants.{Next, Stops}
 
-pub predicted-same : (step next : ℕ) → step ≡ 0 → next ≡ predicted step next
-predicted-same step next e = simp (eq-eqb step 0 e)
-
-pub predicted-changed : (step next : ℕ) → (step ≡ 0 → ⊥) → 0 ≡ predicted step next
-predicted-changed step next e = simp (ne-eqb step 0 e)
-
 module _ (k row next across down bit : ℕ) where
   pub judged-7 : 2 ^ 32 ≤ down → judgedStep k row next across down bit ≡ fault 7 bit
   judged-7 h = simp (le-ltb down (2 ^ 32) h)

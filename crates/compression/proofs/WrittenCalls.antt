@@ -16,15 +16,14 @@ use Rattle.refusals.specs.Units.{wordsFor}
 use Rattle.refusals.specs.Told.{told}
 use Rattle.refusals.specs.declared.Refusal.{Refusal}
 use Rattle.refusals.specs.declared.Refusal.the-variants.{NoRoom}
-use Rattle.refusals.proofs.Refusing.{Refuses, by-place, by-bit, refuses, kept}
+use Rattle.refusals.proofs.Refusing.{kept, stays, both-accepted}
 use Rattle.numbers.specs.Numbers.{baseBitsAt, mostBitsAt}
 use Rattle.numbers.specs.Calls.{outside, rowsOf, baseBitsOf, mostBitsOf}
 use Rattle.numbers.proofs.RowsTold.{RowsAt, rows-given}
-use Rattle.books.specs.Book.{firstMisshapen, oneSymbolEach, sized}
 use Rattle.books.specs.Calls.{checkOf}
 use Rattle.books.specs.Steps.{AllShaped}
 use Rattle.books.proofs.Verdicts.{took}
-use Rattle.books.proofs.Accepted.{book-accepted}
+use Rattle.books.proofs.Accepted.{book-accepted, book-values}
 use Rattle.pair_lists.specs.Lists.{pairsJudged, judgePairsOf}
 use Rattle.streams.specs.Codes.{Code}
 use Rattle.streams.specs.Written.{pairsBits, windowBits}
@@ -64,31 +63,16 @@ module _ (book : List ℕ) (lg : ℕ) (pairs : List ℕ) (w : Writable book lg p
 
 -- ---- what is accepted
 
--- an accepted check carries no values
-check-values : (book values : List ℕ) → checkOf book ≡ accepted values → values ≡ []
-unfolding checkOf
-check-values book values e =
-    let a = took (not (sized book)) _ 2 0 values e in
-    let b = took (ltb (firstMisshapen book) (length book)) _ 3 (firstMisshapen book) values (a .1) in
-    let c = took (not (oneSymbolEach book)) (accepted []) 3 0 values (b .1) in
-    let same : accepted [] ≡ accepted values = c .1 in
-    cc
-
-then-took : (first more : Outcome) → andThen first more ≡ accepted [] → ((values : List ℕ) × (first ≡ accepted values)) × (more ≡ accepted [])
-then-took (accepted values) more e = ((values, refl), e)
-then-took (refused number place) more e = let z : _≡_ {A = ℕ} 0 1 = cc in absurd (omega arith)
-then-took (stopped number place bit) more e = let z : _≡_ {A = ℕ} 0 1 = cc in absurd (omega arith)
-
 pub book-taken : (book : List ℕ) (lg : ℕ) (values : List ℕ) → bookJudged book lg ≡ accepted values
     → (outside lg ≡ false) × (length book ≡ 65) × (checkOf book ≡ accepted [])
 book-taken book lg values e =
     let a = took (outside lg) _ 1 0 values e in
     let b = took (not (eqb (length book) 65)) (checkOf book) 2 0 values (a .1) in
-    (a .0, eqb-true (length book) 65 (not-false (eqb (length book) 65) (b .0)), b .1 ∙ ap accepted (check-values book values (b .1)))
+    (a .0, eqb-true (length book) 65 (not-false (eqb (length book) 65) (b .0)), book-values book values (b .1))
 
 pub writable : (book : List ℕ) (lg : ℕ) (pairs : List ℕ) → lentJudged book lg pairs ≡ accepted [] → Writable book lg pairs
 writable book lg pairs e =
-    let t = then-took (bookJudged book lg) _ e in
+    let t = both-accepted (bookJudged book lg) _ [] e in
     let b = book-taken book lg (t .0 .0) (t .0 .1) in
     let d = took (ltb (2 ^ 28) (length pairs)) (pairsJudged (2 ^ lg) pairs) 4 0 [] (t .1) in
     record { inside = b .0; entries = b .1; passes = b .2; few = ltb-false (2 ^ 28) (length pairs) (d .0); judged = d .1 }
@@ -134,13 +118,9 @@ module _ (codes : List Code) (bits : ℕ) (out : List ℕ) where
 
 -- ---- the whole calls
 
-stops-by : (first more : Outcome) → Refuses first → andThen first more ≡ first
-stops-by (refused number place) more by-place = refl
-stops-by (stopped number place bit) more by-bit = refl
-
 -- a refusal ends both judgements, and an accepted book leaves the second
 pub judged-refused : (why : Refusal) (first more : Outcome) → told why ≡ first → told why ≡ andThen first more
-judged-refused why first more e = sym (ap (λ (o : Outcome). andThen o more) (sym e) ∙ stops-by (told why) more (refuses why))
+judged-refused why first more e = sym (ap (λ (o : Outcome). andThen o more) (sym e) ∙ stays why more)
 
 pub more-judged : (book : List ℕ) (lg : ℕ) → accepted [] ≡ bookJudged book lg → (answer more : Outcome) → answer ≡ more → answer ≡ andThen (bookJudged book lg) more
 more-judged book lg e answer more is = is ∙ ap (λ (o : Outcome). andThen o more) e
@@ -149,7 +129,7 @@ more-judged book lg e answer more is = is ∙ ap (λ (o : Outcome). andThen o mo
 module _ (whole judged : Outcome) (codes : List Code) (bits : ℕ) (out : List ℕ) (chain : whole ≡ andThen judged (writtenIf bits out)) where
   pub call-refused : (why : Refusal) → told why ≡ judged → (told why ≡ whole) × (out ≡ ifAccepted whole (wordsInto codes bits out) out)
   call-refused why e =
-      let is : told why ≡ whole = sym (chain ∙ ap (λ (o : Outcome). andThen o (writtenIf bits out)) (sym e) ∙ stops-by (told why) (writtenIf bits out) (refuses why)) in
+      let is : told why ≡ whole = sym (chain ∙ ap (λ (o : Outcome). andThen o (writtenIf bits out)) (sym e) ∙ stays why (writtenIf bits out)) in
       (is, sym (kept why (wordsInto codes bits out) out) ∙ ap (λ (o : Outcome). ifAccepted o (wordsInto codes bits out) out) is)
 
   pub call-judged : (out′ : List ℕ) (answer : WriteAnswer) → judged ≡ accepted [] → LastBy codes bits out out′ answer

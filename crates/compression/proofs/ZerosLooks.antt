@@ -20,9 +20,9 @@ use Rattle.compression.proofs.LookingFields.{field-cut, field-found}
 
 -- ---- eight bits in a word of 64
 
--- of eight bits that are not all zeros
-pub byte-zeros : (n : ℕ) → 0 < n → n < 256 → (trailingZeros 64 n ≡ trailingZeros 8 n) × (trailingZeros 64 n < 8)
-byte-zeros n p l =
+-- where the low eight bits are not all zeros
+pub byte-zeros : (n : ℕ) → 0 < n % 256 → (trailingZeros 64 n ≡ trailingZeros 8 n) × (trailingZeros 64 n < 8)
+byte-zeros n p =
     ⊎-elim
     (λ (g : 8 ≤ trailingZeros 64 n).
     let all : trailingZeros 8 n ≡ 8 = omega (arith, zeros-min 8 56 n) in

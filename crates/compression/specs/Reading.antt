@@ -27,6 +27,8 @@ use Rattle.compression.specs.declared.reader.Seen.{Seen}
 use Rattle.compression.specs.declared.reader.Seen.the-variants as seen
 use Rattle.compression.specs.declared.reader.Taken.{Taken}
 use Rattle.compression.specs.declared.reader.Taken.the-variants as taken
+use Rattle.compression.specs.declared.step_reader.Steps.{Steps}
+use Rattle.compression.specs.declared.step_reader.Steps.the-variants as steps
 use Rattle.compression.specs.declared.pair_reader.Sizes.{Sizes}
 use Rattle.compression.specs.declared.pair_reader.Sizes.the-variants as sizes
 use Rattle.compression.specs.declared.pair_reader.State.{State}
@@ -41,7 +43,7 @@ placeOf c = 8 * c .next - c .held
 
 -- the buffer holds the bits from the cursor's place up to a whole word's end
 pub record Stands (s : List ℕ) (c : Cursor) : Type 0 where
-  pub few : c .held < 58
+  pub few : c .held < 64
   pub from : c .held ≤ 8 * c .next
   pub whole : c .next % 4 ≡ 0
   pub inside : c .next ≤ length s
@@ -102,6 +104,14 @@ CursorAfter P (stepped.Stops reason) = Unit {0}
 abbrev pub judgedStep : ℕ → ℕ → ℕ → ℕ → ℕ → ℕ → Step
 judgedStep k row next columnStep rowStep bit =
     choose (not (ltb rowStep (2 ^ 32))) (fault 7 bit) (stepJudged k (row + rowStep) (predicted rowStep next + columnStep) bit)
+
+-- the two steps of a pair, and the cursor after them: by them the pair is judged, whatever the row before; or the bit at which the look that failed begins
+abbrev pub StepsBy : List ℕ → List ℕ → ℕ → ℕ → Steps → Type 0
+StepsBy s table b at (steps.Taken across down f) =
+    ((book : List ℕ) → Holds book table → (k row next : ℕ)
+    → pairAt (number s) (wordBits s) book b k row next at ≡ judgedStep k row next across down (placeOf f)) × Stands s f × (across < 256)
+StepsBy s table b at (steps.Ends bit) =
+    (book : List ℕ) → Holds book table → (k row next : ℕ) → pairAt (number s) (wordBits s) book b k row next at ≡ fault 6 bit
 
 -- a pair is this, whatever book it is that the table holds
 abbrev pub pairIs : List ℕ → List ℕ → ℕ → ℕ → State → Step → Type 0

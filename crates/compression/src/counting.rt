@@ -11,6 +11,10 @@ ghost use Rattle.books.specs.Steps.{AllShaped};
 ghost use Rattle.streams.specs.Codes.{total};
 ghost use Rattle.streams.specs.Written.{predicted, pairCodes, codesFrom, pairsBits, windowCodes, windowBits};
 ghost use Rattle.compression.specs.Writing.{Accepts, padOf, Writable};
+use super::common::byte_index;
+use super::common::predict;
+use super::common::wide_entry;
+use super::common::wide_pair;
 use numbers::MostAnswer;
 use numbers::NumberAnswer;
 use numbers::most_bits;
@@ -18,32 +22,6 @@ use numbers::number_of_base_bits;
 use refusals::units::Bits;
 use refusals::units::Words;
 use refusals::units::words_for;
-
-// Casts with their bounds, so that no caller has to show them again.
-pub fn wide(entry: u16) -> u64
-    ensures { λ r. ⌜ (r ≡ entry) × (r < 65536) ⌝ }
-{
-    entry as u64
-}
-
-pub fn wider(pair: u32) -> u64
-    ensures { λ r. ⌜ (r ≡ pair) × (r < 4294967296) ⌝ }
-{
-    pair as u64
-}
-
-fn index(byte: u8) -> usize
-    ensures { λ r. ⌜ (r ≡ byte) × (r < 256) ⌝ }
-{
-    byte as usize
-}
-
-// Column prediction returns to 0 when the row changes.
-pub fn predict(step: u64, next: u64) -> u64
-    ensures { λ r. ⌜ r ≡ predicted step next ⌝ }
-{
-    if step == 0 { next } else { 0 }
-}
 
 // The bits of one pair, after a row, where the column `next` is predicted in that row.
 fn pair_bits(book: &[u16], b: u64, row: u64, next: u64, pair: u64) -> u64
@@ -53,7 +31,7 @@ fn pair_bits(book: &[u16], b: u64, row: u64, next: u64, pair: u64) -> u64
 {
     let step = pair / 64 - row;
     let x = (pair % 64 - predict(step, next)) as usize;
-    wide(book[x]) / 4096 + (step >> b) + 1 + b
+    wide_entry(book[x]) / 4096 + (step >> b) + 1 + b
 }
 
 // The bits of all pairs.
@@ -66,7 +44,7 @@ pub fn count_pairs(book: &[u16], b: u64, pairs: &[u32]) -> u64
     let mut next: u64 = 0;
     let mut i = 0;
     while i < pairs.len() {
-        let pair = wider(pairs[i]);
+        let pair = wide_pair(pairs[i]);
         sum += pair_bits(book, b, row, next, pair);
         row = pair / 64;
         next = pair % 64 + 1;
@@ -80,8 +58,8 @@ pub fn entry_at(book: &[u16], window: &[u8], i: usize) -> u64
     requires { ⌜ (length (now book) ≡ 256) × (i < length (now window)) ⌝ }
     ensures { λ r. ⌜ (r ≡ getD (now (book .entry)) (getD (now (window .entry)) i 0) 0) × (getD (now (window .entry)) i 0 < 256) × (r < 65536) ⌝ }
 {
-    let byte = index(window[i]);
-    wide(book[byte])
+    let byte = byte_index(window[i]);
+    wide_entry(book[byte])
 }
 
 // The bits of all codes of a window.

@@ -5,10 +5,12 @@ ghost use mathlib.Core.Path.{_≡_};
 ghost use Rattle.streams.specs.Calls.{readPairsOf, pairsRead, readWindowOf, windowRead, writePairsOf, pairsWritten, writeWindowOf, windowWritten};
 ghost use Rattle.compression.specs.Told.{toldRead, toldWrite};
 
+mod common;
 mod counting;
 mod pair_reader;
 mod pair_writer;
 mod reader;
+mod step_reader;
 mod window_reader;
 mod window_writer;
 mod writer;

@@ -7,13 +7,14 @@ ghost use lib.ListN.{length};
 ghost use Rattle.books.specs.Told.{toldCheck};
 ghost use Rattle.books.specs.Uses.{Decodes};
 ghost use Rattle.streams.specs.Stream.{number, wordBits};
-ghost use Rattle.streams.specs.Written.{predicted};
 ghost use Rattle.streams.specs.Read.{pairsFrom};
 ghost use Rattle.compression.specs.Reading.{Stands, placeOf, Holds, SteppedBy, CursorAfter, judgedStep, pairIs, ReadBy, SizesBy, roomJudged, pairsPartsJudged};
 use super::ReadAnswer;
+use super::common::predict;
 use super::reader;
 use super::reader::Cursor;
-use super::reader::Taken;
+use super::step_reader;
+use super::step_reader::Steps;
 use books::CheckAnswer;
 use numbers::NumberAnswer;
 use numbers::RowsAnswer;
@@ -85,14 +86,6 @@ pub fn judge_parts(
     }
 }
 
-// The column to step from: 0 when the row changes.
-fn predict(step: u64, next: u64) -> u64
-    requires { ⌜ next ≤ 64 ⌝ }
-    ensures { λ r. ⌜ (r ≡ predicted step next) × (r ≤ 64) ⌝ }
-{
-    if step == 0 { next } else { 0 }
-}
-
 // The pair that a column step and a row step lead to, with the cursor after it, which stands at `bit`.
 fn judge(
     k: u64,
@@ -138,20 +131,17 @@ fn next_pair(stream: &[u8], table: &[u16], b: u32, k: u64, state: State, place: 
     ensures { λ r. ⌜ SteppedBy k place (pairIs (now (stream .entry)) (now (table .entry)) b k state) r × CursorAfter (Stands (now (stream .entry))) r ⌝ }
 {
     let from = state.cursor;
-    match reader::take_code(stream, table, from) {
-        Taken::Ends(bit) => Stepped::Stops(Reason::StreamEnds { place, bit }),
-        Taken::Value(across, after) => match reader::take_row_step(stream, after, b) {
-            Taken::Ends(bit) => Stepped::Stops(Reason::StreamEnds { place, bit }),
-            Taken::Value(down, last) => judge(
-                k,
-                state,
-                across,
-                down,
-                last,
-                reader::bit_of(last),
-                place,
-            ),
-        },
+    match step_reader::take_steps(stream, table, b, from) {
+        Steps::Ends(bit) => Stepped::Stops(Reason::StreamEnds { place, bit }),
+        Steps::Taken(across, down, last) => judge(
+            k,
+            state,
+            across,
+            down,
+            last,
+            reader::bit_of(last),
+            place,
+        ),
     }
 }
 

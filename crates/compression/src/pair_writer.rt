@@ -12,12 +12,13 @@ ghost use Rattle.streams.specs.Codes.{total, pack};
 ghost use Rattle.streams.specs.Written.{predicted, pairCodes, codesFrom, pairsCodes, pairsBits};
 ghost use Rattle.compression.specs.Writing.{Lawful, bitsPut, PutsBy, partCodes, entryCodes, Accepts, listBits, Writable, bookJudged, lentJudged, WrittenBy, LastBy};
 use super::WriteAnswer;
+use super::common::low_bits;
+use super::common::predict;
+use super::common::wide_entry;
+use super::common::wide_pair;
 use super::counting::base_bits;
 use super::counting::pad_for;
 use super::counting::pairs_fit;
-use super::counting::predict;
-use super::counting::wide;
-use super::counting::wider;
 use super::writer::Writer;
 use super::writer::close;
 use super::writer::new;
@@ -31,14 +32,6 @@ use pair_lists::PairsAnswer;
 use pair_lists::judge_pairs;
 use refusals::Refusal;
 use refusals::units::Words;
-
-// The b low bits of a number.
-fn low_bits(n: u64, b: u64) -> u64
-    requires { ⌜ b ≤ 26 ⌝ }
-    ensures { λ r. ⌜ (r ≡ n % 2 ^ b) × (r < 2 ^ b) ⌝ }
-{
-    n % (1u64 << b)
-}
 
 // The codes of one pair as one value, where they are few bits: the low bits stand above the one, and the one above the zeros and the codeword.
 fn join(entry: u64, zeros: u64, b: u64, low: u64) -> u64
@@ -93,7 +86,7 @@ fn put_pair(
 {
     let step = pair / 64 - row;
     let x = (pair % 64 - predict(step, next)) as usize;
-    let entry = wide(book[x]);
+    let entry = wide_entry(book[x]);
     put_step(out, w, entry, b, step)
 }
 
@@ -108,7 +101,7 @@ fn put_pairs(out: &mut [u8], book: &[u16], w: Writer, b: u64, pairs: &[u32]) -> 
     let mut next: u64 = 0;
     let mut i = 0;
     while i < pairs.len() {
-        let pair = wider(pairs[i]);
+        let pair = wide_pair(pairs[i]);
         at = put_pair(out, book, at, b, row, next, pair);
         row = pair / 64;
         next = pair % 64 + 1;

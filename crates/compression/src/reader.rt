@@ -3,7 +3,7 @@
 ghost use mathlib.Core.Path.{_≡_};
 ghost use mathlib.Core.Bool.{_&&_};
 ghost use mathlib.Core.List.{List};
-ghost use Prim.Native.Nat.{ℕ, _+_, _*_, _≤_, _<_, _^_};
+ghost use Prim.Native.Nat.{ℕ, _+_, _*_, _%_, _≤_, _<_, _^_};
 ghost use lib.Count.{trailingZeros};
 ghost use lib.Dec.{eqb, leb};
 ghost use lib.ListN.{length};
@@ -11,6 +11,9 @@ ghost use Rattle.books.specs.Uses.{Decodes};
 ghost use Rattle.streams.specs.Stream.{number, wordBits, bitsAt};
 ghost use Rattle.streams.specs.Looks.{fieldAt, zerosAt, rowStepAt};
 ghost use Rattle.compression.specs.Reading.{Stands, placeOf, FilledBy, SeenBy, TakenBy, codeIs};
+use super::common::index;
+use super::common::wide_byte;
+use super::common::wide_entry;
 
 pub struct Cursor {
     pub buffer: u64,
@@ -45,33 +48,15 @@ pub fn begin() -> Cursor
     }
 }
 
-fn wide(byte: u8) -> u64
-    ensures { λ r. ⌜ (r ≡ byte) × (r < 256) ⌝ }
-{
-    byte as u64
-}
-
-fn wide_entry(entry: u16) -> u64
-    ensures { λ r. ⌜ (r ≡ entry) × (r < 65536) ⌝ }
-{
-    entry as u64
-}
-
-fn index(look: u64) -> usize
-    ensures { λ r. ⌜ r ≡ look ⌝ }
-{
-    look as usize
-}
-
 // The 32-bit little-endian word at a byte.
 fn word_at(stream: &[u8], i: usize) -> u64
     requires { ⌜ i + 4 ≤ length (now stream) ⌝ }
     ensures { λ r. ⌜ r ≡ bitsAt (number (now (stream .entry))) (8 * i) 32 ⌝ }
 {
-    wide(stream[i])
-        + wide(stream[i + 1]) * 0x100
-        + wide(stream[i + 2]) * 0x1_0000
-        + wide(stream[i + 3]) * 0x100_0000
+    wide_byte(stream[i])
+        + wide_byte(stream[i + 1]) * 0x100
+        + wide_byte(stream[i + 2]) * 0x1_0000
+        + wide_byte(stream[i + 3]) * 0x100_0000
 }
 
 // The bit at which the cursor stands.
@@ -84,7 +69,7 @@ pub fn bit_of(cursor: Cursor) -> u64
 
 // At least `needed` bits in the buffer, by one more word where it has fewer.
 fn fill(stream: &[u8], cursor: Cursor, needed: u32) -> Filled
-    requires { ⌜ Stands (now stream) cursor × (needed ≤ 26) × (length (now stream) ≤ 2 ^ 30) ⌝ }
+    requires { ⌜ Stands (now stream) cursor × (needed ≤ 32) × (length (now stream) ≤ 2 ^ 30) ⌝ }
     ensures { λ r. ⌜ FilledBy (now (stream .entry)) cursor needed r ⌝ }
 {
     let held = cursor.held;
@@ -103,6 +88,17 @@ fn fill(stream: &[u8], cursor: Cursor, needed: u32) -> Filled
     })
 }
 
+// A word's bits or more in the buffer, unless the stream ends before them: one test serves the looks that follow.
+pub fn top_up(stream: &[u8], cursor: Cursor) -> Cursor
+    requires { ⌜ Stands (now stream) cursor × (length (now stream) ≤ 2 ^ 30) ⌝ }
+    ensures { λ r. ⌜ Stands (now (stream .entry)) r × (placeOf r ≡ placeOf cursor) ⌝ }
+{
+    match fill(stream, cursor, 32) {
+        Filled::Ready(full) => full,
+        Filled::Ends => cursor,
+    }
+}
+
 // A look at the next `count` bits, which stay to be read.
 fn look(stream: &[u8], cursor: Cursor, count: u32) -> Seen
     requires { ⌜ Stands (now stream) cursor × (count ≤ 26) × (length (now stream) ≤ 2 ^ 30) ⌝ }
@@ -115,8 +111,8 @@ fn look(stream: &[u8], cursor: Cursor, count: u32) -> Seen
 }
 
 // Past `count` bits that the buffer holds.
-fn skip(cursor: Cursor, count: u32) -> Cursor
-    requires { ⌜ (count ≤ cursor .held) × (count ≤ 26) ⌝ }
+pub fn skip(cursor: Cursor, count: u32) -> Cursor
+    requires { ⌜ (count ≤ cursor .held) × (count < 64) ⌝ }
     ensures { λ r. ⌜ ((s : List ℕ) → Stands s cursor → Stands s r × (placeOf r ≡ placeOf cursor + count)) ⌝ }
 {
     Cursor {
@@ -152,9 +148,9 @@ pub fn take_code(stream: &[u8], table: &[u16], cursor: Cursor) -> Taken
     }
 }
 
-// The zeros before the lowest one of eight bits.
-fn zeros_in(bits: u64) -> u32
-    requires { ⌜ (0 < bits) × (bits < 256) ⌝ }
+// The zeros before the lowest one, where that is among the low eight bits.
+pub fn zeros_in(bits: u64) -> u32
+    requires { ⌜ 0 < bits % 256 ⌝ }
     ensures { λ r. ⌜ (r ≡ trailingZeros 8 bits) × (r < 8) ⌝ }
 {
     u64::trailing_zeros(bits)

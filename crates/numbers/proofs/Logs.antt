@@ -4,7 +4,7 @@ use mathlib.Core.Logic.{⊎-elim}
 use mathlib.Core.Bool.{Bool, true, false, _||_}
 use Prim.Native.Nat.{ℕ, zero, suc, _+_, _*_, _/_, _^_, _≤_, _<_}
 use native.Mathlib.Numerals.{add-one}
-use native.Mathlib.Nat.{pow-suc, le-of-eq, le-div-iff-mul-le}
+use native.Mathlib.Nat.{pow-suc, le-of-eq, le-trans, div-le-self, div-lt-iff-lt-mul, le-div-iff-mul-le}
 use native.Mathlib.Omega.{arith}
 use borrow.Author.Tests.{lt-ltb, le-ltb, ne-eqb}
 use lib.Dec.{ltb, eqb}
@@ -56,6 +56,16 @@ pub base-bits-fit : (k n : ℕ) → 1 ≤ n → n ≤ k → 2 ^ baseBitsAt k n *
 unfolding baseBitsAt floorLog2
 base-bits-fit k n p h =
     rw (ne-eqb n 0 (omega arith), le-ltb k n h) (le-div-iff-mul-le p .0 (halvings-bounds 26 (k / n) (quotient-pos p h) .0))
+
+-- k is below 2^(b+1) rows for each of n pairs
+pub base-bits-reach : (k n : ℕ) → 1 ≤ n → n ≤ k → k ≤ 2 ^ 26 → k < 2 ^ suc (baseBitsAt k n) * n
+unfolding baseBitsAt
+base-bits-reach k n p h m =
+    rw (ne-eqb n 0 (omega arith), le-ltb k n h) (div-lt-iff-lt-mul p .0 (log-bounds (k / n) (quotient-pos p h) (le-trans (div-le-self k n) m) .1))
+
+pub base-bits-none : (k n : ℕ) → k < n → baseBitsAt k n ≡ 0
+unfolding baseBitsAt
+base-bits-none k n h = rw (ne-eqb n 0 (omega arith), lt-ltb k n h)
 
 -- doubling from 1: the power of so many bits, and its half is below q
 pub record Doubled (q bits power : ℕ) : Type 0 where

@@ -1,4 +1,4 @@
--- A refusal is told as one, and keeps what was lent. Assumes nothing.
+-- A refusal is told as one, keeps what was lent, and ends what would follow. Assumes nothing.
 use mathlib.Core.Path.{_≡_, refl}
 use mathlib.Core.List.{List}
 use Prim.Native.Nat.{ℕ}
@@ -28,8 +28,18 @@ kept-by (stopped number place bit) by-bit after before = refl
 pub kept {ℓ} : {A : Type ℓ} (r : Refusal) (after before : A) → ifAccepted (told r) after before ≡ before
 kept r after before = kept-by (told r) (refuses r) after before
 
--- where two judgements together are accepted, both are
-pub then-accepted : (first more : Outcome) (values : List ℕ) → andThen first more ≡ accepted values → ((own : List ℕ) × (first ≡ accepted own)) × (more ≡ accepted values)
-then-accepted (accepted own) more values e = ((own, refl), e)
-then-accepted (refused number place) more values e = let z : _≡_ {A = ℕ} 0 1 = cc in absurd (omega arith)
-then-accepted (stopped number place bit) more values e = let z : _≡_ {A = ℕ} 0 1 = cc in absurd (omega arith)
+-- ---- one judgement after another
+
+stays-by : (first more : Outcome) → Refuses first → andThen first more ≡ first
+stays-by (refused number place) more by-place = refl
+stays-by (stopped number place bit) more by-bit = refl
+
+-- the first refusal is that of both
+pub stays : (r : Refusal) (more : Outcome) → andThen (told r) more ≡ told r
+stays r more = stays-by (told r) more (refuses r)
+
+-- where both are accepted, each is
+pub both-accepted : (first more : Outcome) (values : List ℕ) → andThen first more ≡ accepted values → ((own : List ℕ) × (first ≡ accepted own)) × (more ≡ accepted values)
+both-accepted (accepted own) more values e = ((own, refl), e)
+both-accepted (refused number place) more values e = let z : _≡_ {A = ℕ} 0 1 = cc in absurd (omega arith)
+both-accepted (stopped number place bit) more values e = let z : _≡_ {A = ℕ} 0 1 = cc in absurd (omega arith)

@@ -1,19 +1,18 @@
 -- Demand 3, over the calls: what is written is read back, and no claim is too large for its stream. Assumes nothing.
 use mathlib.Core.Path.{_≡_, refl, ap, ap₂, _∙_}
-use mathlib.Core.Bool.{true, false, not, _&&_}
+use mathlib.Core.Bool.{not, _&&_}
 use mathlib.Core.List.{List, [], _∷_, _++_}
-use Prim.Native.Nat.{ℕ, zero, suc, _+_, _*_, _/_, _^_, _≤_, _<_}
+use Prim.Native.Nat.{ℕ, _*_, _^_, _≤_}
 use native.Mathlib.Omega.{arith}
 use borrow.Author.Tests.{eq-eqb, le-ltb, le-leb}
-use lib.Dec.{eqb, leb, ltb}
+use lib.Dec.{eqb, leb}
 use lib.ListN.{length, drop, length-append, length-drop}
 use lib.Pow.{pow-mono}
-use Rattle.laws.specs.Choose.{choose}
-use Rattle.refusals.specs.Outcome.{Outcome, accepted, refused, stopped, ifAccepted, andThen}
+use Rattle.refusals.specs.Outcome.{Outcome, accepted, ifAccepted, andThen}
 use Rattle.refusals.specs.Units.{wordsFor}
-use Rattle.refusals.proofs.Refusing.{then-accepted}
+use Rattle.refusals.proofs.Refusing.{both-accepted}
 use Rattle.numbers.specs.Calls.{outside}
-use Rattle.books.specs.Calls.{checkOf, checkTableOf}
+use Rattle.books.specs.Calls.{checkTableOf}
 use Rattle.books.proofs.Accepted.{table-values, table-checks}
 use Rattle.books.proofs.Verdicts.{took}
 use Rattle.pair_lists.specs.Lists.{pairsJudged}
@@ -89,14 +88,14 @@ unfolding readPairsJudged
 judged-checks book table lg count stream out values e =
     let a = took (outside lg) _ 1 0 values e in
     let b = took (not (eqb (length book) 65 && (eqb (length table) 4096 && leb (length stream) (2 ^ 30)))) _ 2 0 values (a .1) in
-    let c = then-accepted (checkTableOf book table) _ values (b .1) in
+    let c = both-accepted (checkTableOf book table) _ values (b .1) in
     table-values book table (c .0 .0) (c .0 .1)
 
 -- no stream of s bytes, whoever wrote it, is accepted for more than 4s pairs
 pub claims-few : (book table : List ℕ) (lg count : ℕ) (stream out values : List ℕ) → readPairsOf book table lg count stream out ≡ accepted values
     → count ≤ 4 * length stream
 claims-few book table lg count stream out values e =
-    let t = then-accepted (readPairsJudged book table lg count stream out) (readOutcome (pairsReading book (2 ^ lg) count stream)) values e in
+    let t = both-accepted (readPairsJudged book table lg count stream out) (readOutcome (pairsReading book (2 ^ lg) count stream)) values e in
     let w = read-whole (length (pairsReading book (2 ^ lg) count stream .items)) (pairsReading book (2 ^ lg) count stream .ending) values (t .1) in
     let ok = table-checks book table (judged-checks book table lg count stream out (t .0 .0) (t .0 .1)) in
     pairs-few book (2 ^ lg) count stream (w .0) ok (w .1) .1

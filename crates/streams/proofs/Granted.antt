@@ -3,18 +3,17 @@ use mathlib.Core.Path.{_≡_, refl, ap, _∙_, subst}
 use mathlib.Core.Logic.{⊎-elim}
 use mathlib.Core.List.{List, [], _∷_}
 use Prim.Native.Nat.{ℕ, zero, suc, _+_, _-_, _*_, _/_, _%_, _^_, _≤_, _<_}
-use native.Mathlib.Nat.{le-trans, sub-zero, add-mul, mul-add, suc-mul, mul-comm, mul-right-comm, mul-le-mul-left, pow-suc}
-use native.Mathlib.Nat.{div-one, div-le-self, div-mul-le-self, div-lt-iff-lt-mul, le-div-iff-mul-le}
+use native.Mathlib.Nat.{sub-zero, add-mul, mul-add, suc-mul, mul-comm, mul-right-comm, mul-le-mul-left, pow-suc}
+use native.Mathlib.Nat.{div-one, div-mul-le-self, div-lt-iff-lt-mul, le-div-iff-mul-le}
 use native.Mathlib.Omega.{arith}
-use borrow.Author.Tests.{lt-ltb, le-ltb, eq-eqb, ne-eqb}
+use borrow.Author.Tests.{le-ltb, eq-eqb, ne-eqb}
 use lib.ListN.{length}
 use lib.Pow.{pow-pos, pow-mono}
 use Rattle.laws.proofs.Orders.{le-or-lt}
-use Rattle.laws.proofs.Quotients.{quotient-pos}
 use Rattle.refusals.specs.Outcome.{accepted}
 use Rattle.refusals.specs.Units.{wordsFor}
 use Rattle.numbers.specs.Numbers.{baseBitsAt, mostBitsAt}
-use Rattle.numbers.proofs.Logs.{log-bounds, base-bits-most}
+use Rattle.numbers.proofs.Logs.{base-bits-most, base-bits-reach, base-bits-none}
 use Rattle.books.specs.Calls.{checkOf}
 use Rattle.books.specs.Steps.{AllShaped}
 use Rattle.books.proofs.Accepted.{book-accepted}
@@ -26,17 +25,7 @@ use Rattle.streams.proofs.Rising.{Rising, none, one, rising}
 
 -- ---- the base bits
 
--- k is below 2^(b+1) rows for each of n pairs
-pub base-bits-reach : (k n : ℕ) → 1 ≤ n → n ≤ k → k ≤ 2 ^ 26 → k < 2 ^ suc (baseBitsAt k n) * n
-unfolding baseBitsAt
-base-bits-reach k n p h m =
-    rw (ne-eqb n 0 (omega arith), le-ltb k n h) (div-lt-iff-lt-mul p .0 (log-bounds (k / n) (quotient-pos p h) (le-trans (div-le-self k n) m) .1))
-
-pub base-bits-none : (k n : ℕ) → k < n → baseBitsAt k n ≡ 0
-unfolding baseBitsAt
-base-bits-none k n h = rw (ne-eqb n 0 (omega arith), lt-ltb k n h)
-
--- so all rows together take fewer than two zeros for each pair
+-- all rows together take fewer than two zeros for each pair
 pub few-zeros : (k n : ℕ) → 1 ≤ n → k ≤ 2 ^ 26 → k / 2 ^ baseBitsAt k n < 2 * n
 few-zeros k n p m = ⊎-elim within beyond (le-or-lt n k)
   where

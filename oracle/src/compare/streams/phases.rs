@@ -4,10 +4,12 @@ use super::inputs::Input;
 use super::inputs::Room;
 use crate::answer::Answer;
 use crate::books::BookSet;
+use crate::cases::Kind;
 use crate::listed::Listed;
 use crate::plain_reading::books::decoding_table;
 use crate::plain_reading::numbers;
 use crate::random::Random;
+use crate::rust;
 
 /// A book with its table, and the way to have the Rust take it.
 pub struct Phase<'a> {
@@ -45,6 +47,17 @@ pub fn phases(set: &BookSet) -> impl Iterator<Item = Phase<'_>> {
             .find(|&coupons| numbers::phase(4, coupons) == Answer::accepted(&[number as u64]))
             .expect("every phase has coupons at lg_k 4"),
     })
+}
+
+/// Random cases with every book of every set, then chosen ones with those of the first; the Rust has
+/// the books of a set while they are tried.
+pub fn try_phases(sets: &[BookSet], mut judge: impl FnMut(&Phase, Kind)) {
+    for set in sets {
+        rust::install(set);
+        phases(set).for_each(|phase| judge(&phase, Kind::Random));
+    }
+    rust::install(&sets[0]);
+    phases(&sets[0]).for_each(|phase| judge(&phase, Kind::Chosen));
 }
 
 /// A window of one byte, of few, or of any.

@@ -7,6 +7,7 @@ use super::inputs::no_room;
 use super::phases::Phase;
 use super::phases::phases;
 use super::phases::random_window;
+use super::phases::try_phases;
 use super::sides;
 use crate::books::BookSet;
 use crate::cases::AgainstRust;
@@ -33,16 +34,10 @@ type Cases<'a> = AgainstRust<'a, Input<u8>>;
 pub fn compare(sets: &[BookSet], rust_answers: &mut RustAnswers) {
     let mut random = Random::new(8);
     let mut cases = AgainstRust::new("write_window", CLASSES, rust_answers);
-    for set in sets {
-        rust::install(set);
-        for phase in phases(set) {
-            judge_random(&mut cases, &phase, &mut random);
-        }
-    }
-    rust::install(&sets[0]);
-    for phase in phases(&sets[0]) {
-        judge_chosen(&mut cases, &phase);
-    }
+    try_phases(sets, |phase, kind| match kind {
+        Kind::Random => judge_random(&mut cases, phase, &mut random),
+        Kind::Chosen => judge_chosen(&mut cases, phase),
+    });
     let long = random_window(20, &mut random);
     let phase = phases(&sets[0]).next().unwrap();
     judge(&mut cases, &phase, 20, &long, Kind::Random);

@@ -20,14 +20,14 @@ loop-holds c =
     let a = st .args in
     pairs-start (now (a .book)) (a .b) (now (a .pairs)) (st .pre .2)
 
-mul-wider : tie.Need-mul-wider Inv-loop μ-loop
-mul-wider c = search needs
+mul-wide-pair : tie.Need-mul-wide-pair Inv-loop μ-loop
+mul-wide-pair c = search needs
 
-shared-slice-read-wider : tie.Need-shared-slice-read-wider Inv-loop μ-loop
-shared-slice-read-wider c = search needs
+shared-slice-read-wide-pair : tie.Need-shared-slice-read-wide-pair Inv-loop μ-loop
+shared-slice-read-wide-pair c = search needs
 
-wider-requires : tie.Need-wider-requires Inv-loop μ-loop
-wider-requires c κs = search needs
+wide-pair-requires : tie.Need-wide-pair-requires Inv-loop μ-loop
+wide-pair-requires c κs = search needs
 
 pair-bits-requires : tie.Need-pair-bits-requires Inv-loop μ-loop
 pair-bits-requires c κs =
@@ -35,7 +35,7 @@ pair-bits-requires c κs =
     let st = h .before .before .before in
     let a = st .args in
     let f = pair-follows (now (a .book)) (a .b) (now (a .pairs)) (h .loop .sum) (h .loop .row) (h .loop .next) (h .loop .i) (h .loop .inv) (omega arith) in
-    rw (c .wider .ensures .0) ((st .pre .0, st .pre .1, f .rises, f .right), omega arith)
+    rw (c .wide-pair .ensures .0) ((st .pre .0, st .pre .1, f .rises, f .right), omega arith)
 
 add-sum : tie.Need-add-sum Inv-loop μ-loop
 add-sum c =
@@ -44,7 +44,7 @@ add-sum c =
     let a = st .args in
     let below =
     pair-below (now (a .book)) (a .b) (now (a .pairs)) (h .loop .sum) (h .loop .row) (h .loop .next) (h .loop .i) (h .loop .inv) (omega arith)
-    (c .before .wider .result) (c .pair-bits .result) (c .before .wider .ensures .0) (c .pair-bits .ensures) in
+    (c .before .wide-pair .result) (c .pair-bits .result) (c .before .wide-pair .ensures .0) (c .pair-bits .ensures) in
     omega (arith, below, st .pre .3)
 
 add-next : tie.Need-add-next Inv-loop μ-loop
@@ -61,7 +61,7 @@ loop-again c =
     let h = c .before .before .before .before in
     let a = h .before .before .before .args in
     pairs-turn (now (a .book)) (a .b) (now (a .pairs)) (h .loop .sum) (h .loop .row) (h .loop .next) (h .loop .i) (h .loop .inv) (omega arith)
-    (c .before .wider .result) (c .pair-bits .result) (c .before .wider .ensures .0) (c .pair-bits .ensures)
+    (c .before .wide-pair .result) (c .pair-bits .result) (c .before .wide-pair .ensures .0) (c .pair-bits .ensures)
 
 returns : tie.Need-returns Inv-loop μ-loop
 returns c =
@@ -76,9 +76,9 @@ count-pairs-spec =
     Inv-loop
     μ-loop
     loop-holds
-    mul-wider
-    shared-slice-read-wider
-    wider-requires
+    mul-wide-pair
+    shared-slice-read-wide-pair
+    wide-pair-requires
     pair-bits-requires
     add-sum
     add-next

@@ -8,35 +8,35 @@ use borrow.Author.Needs.{needs}
 use Rattle.compression.proofs.counting.entry_at.Statement.{statement}
 use Rattle.compression.proofs.counting.entry_at.Tie as tie
 
-shared-slice-read-index : tie.Need-shared-slice-read-index
-shared-slice-read-index c = search needs
+shared-slice-read-byte-index : tie.Need-shared-slice-read-byte-index
+shared-slice-read-byte-index c = search needs
 
-index-requires : tie.Need-index-requires
-index-requires c κs = search needs
+byte-index-requires : tie.Need-byte-index-requires
+byte-index-requires c κs = search needs
 
-mul-wide : tie.Need-mul-wide
-mul-wide c = search needs
+mul-wide-entry : tie.Need-mul-wide-entry
+mul-wide-entry c = search needs
 
-shared-slice-read-wide : tie.Need-shared-slice-read-wide
-shared-slice-read-wide c = search needs
+shared-slice-read-wide-entry : tie.Need-shared-slice-read-wide-entry
+shared-slice-read-wide-entry c = search needs
 
-wide-requires : tie.Need-wide-requires
-wide-requires c κs = search needs
+wide-entry-requires : tie.Need-wide-entry-requires
+wide-entry-requires c κs = search needs
 
 returns : tie.Need-returns
 returns c =
     let a = c .before .before .before .before .before .before .args in
-    let byte = c .before .before .index in
-    let is = c .wide .ensures .0 ∙ ap (λ (x : ℕ). getD (now (a .book)) x 0) (byte .ensures .0) in
-    (is, omega (arith, byte .ensures), c .wide .ensures .1)
+    let byte = c .before .before .byte-index in
+    let is = c .wide-entry .ensures .0 ∙ ap (λ (x : ℕ). getD (now (a .book)) x 0) (byte .ensures .0) in
+    (is, omega (arith, byte .ensures), c .wide-entry .ensures .1)
 
 pub entry-at-spec : {M : Type 1} → statement M
 entry-at-spec =
     tie.close
     (tie.spec
-    shared-slice-read-index
-    index-requires
-    mul-wide
-    shared-slice-read-wide
-    wide-requires
+    shared-slice-read-byte-index
+    byte-index-requires
+    mul-wide-entry
+    shared-slice-read-wide-entry
+    wide-entry-requires
     returns)

@@ -22,14 +22,14 @@ predict-requires c κs = search needs
 sub-x : tie.Need-sub-x
 sub-x c = search needs
 
-mul-wide : tie.Need-mul-wide
-mul-wide c = search needs
+mul-wide-entry : tie.Need-mul-wide-entry
+mul-wide-entry c = search needs
 
-shared-slice-read-wide : tie.Need-shared-slice-read-wide
-shared-slice-read-wide c = search needs
+shared-slice-read-wide-entry : tie.Need-shared-slice-read-wide-entry
+shared-slice-read-wide-entry c = search needs
 
-wide-requires : tie.Need-wide-requires
-wide-requires c κs = search needs
+wide-entry-requires : tie.Need-wide-entry-requires
+wide-entry-requires c κs = search needs
 
 put-step-requires : tie.Need-put-step-requires
 put-step-requires c κs =
@@ -37,9 +37,9 @@ put-step-requires c κs =
     let st = w .before .before .before .before .before in
     let a = st .args in
     let x : ℕ = a .pair % 64 - w .before .before .predict .result in
-    let is = w .wide .ensures .0 in
-    let e : w .wide .result ≡ getD (now (a .book)) (a .pair % 64 - predicted (a .pair / 64 - a .row) (a .next)) 0 =
-    is ∙ ap (λ (i : ℕ). getD (now (a .book)) (a .pair % 64 - i) 0) (w .before .before .predict .ensures) in (
+    let is = w .wide-entry .ensures .0 in
+    let e : w .wide-entry .result ≡ getD (now (a .book)) (a .pair % 64 - predicted (a .pair / 64 - a .row) (a .next)) 0 =
+    is ∙ ap (λ (i : ℕ). getD (now (a .book)) (a .pair % 64 - i) 0) (w .before .before .predict .ensures .0) in (
       st .pre .0 .0,
       subst Shape (sym is) (st .pre .0 .1 x (omega (arith, st .pre .0 .2))),
       st .pre .0 .3,
@@ -55,8 +55,8 @@ returns c =
     let call = c .before .before in
     let w = call .before .before in
     let a = w .before .before .before .before .before .args in
-    let e : w .wide .result ≡ getD (now (a .book)) (a .pair % 64 - predicted (a .pair / 64 - a .row) (a .next)) 0 =
-    w .wide .ensures .0 ∙ ap (λ (i : ℕ). getD (now (a .book)) (a .pair % 64 - i) 0) (w .before .before .predict .ensures) in
+    let e : w .wide-entry .result ≡ getD (now (a .book)) (a .pair % 64 - predicted (a .pair / 64 - a .row) (a .next)) 0 =
+    w .wide-entry .ensures .0 ∙ ap (λ (i : ℕ). getD (now (a .book)) (a .pair % 64 - i) 0) (w .before .before .predict .ensures .0) in
     subst (λ (v : ℕ). PutsBy (now (a .out)) (call .put-step .last .0) (a .w) (call .put-step .result) (entryCodes v (a .b) (a .pair / 64 - a .row))) e
     (call .put-step .ensures)
 
@@ -67,9 +67,9 @@ put-pair-spec =
     sub-step
     predict-requires
     sub-x
-    mul-wide
-    shared-slice-read-wide
-    wide-requires
+    mul-wide-entry
+    shared-slice-read-wide-entry
+    wide-entry-requires
     put-step-requires
     same-length
     returns)

@@ -26,14 +26,14 @@ loop-holds c =
     let a = st .args in
     start (now (a .book)) (a .b) (now (a .pairs)) (now (a .out)) (a .w) (st .pre .0 .0) (st .pre .0 .4)
 
-mul-wider : tie.Need-mul-wider Inv-loop μ-loop
-mul-wider c = search needs
+mul-wide-pair : tie.Need-mul-wide-pair Inv-loop μ-loop
+mul-wide-pair c = search needs
 
-shared-slice-read-wider : tie.Need-shared-slice-read-wider Inv-loop μ-loop
-shared-slice-read-wider c = search needs
+shared-slice-read-wide-pair : tie.Need-shared-slice-read-wide-pair Inv-loop μ-loop
+shared-slice-read-wide-pair c = search needs
 
-wider-requires : tie.Need-wider-requires Inv-loop μ-loop
-wider-requires c κs = search needs
+wide-pair-requires : tie.Need-wide-pair-requires Inv-loop μ-loop
+wide-pair-requires c κs = search needs
 
 put-pair-requires : tie.Need-put-pair-requires Inv-loop μ-loop
 put-pair-requires c κs =
@@ -46,7 +46,7 @@ put-pair-requires c κs =
     first (now (a .book)) (a .b) (now (a .pairs)) (now (a .out)) (a .w) (h .loop .out) (h .loop .at) (h .loop .row) (h .loop .next) (h .loop .i) inv lt in
     let r =
     room (now (a .book)) (a .b) (now (a .pairs)) (now (a .out)) (a .w) (h .loop .out) (h .loop .at) (h .loop .row) (h .loop .next) (h .loop .i) inv lt in
-    rw (c .before .wider .ensures .0) (
+    rw (c .before .wide-pair .ensures .0) (
       (inv .puts .lawful, st .pre .0 .1, st .pre .0 .2, st .pre .0 .3),
       ((follows .rises, follows .right, omega arith), omega (arith, r, st .pre .1, inv .puts .size)),
     )
@@ -65,7 +65,7 @@ loop-again c =
     let call = c .before .before in
     let h = call .before .before .before .before .before in
     let a = start-of h .args in
-    let e = call .before .before .wider .ensures .0 in
+    let e = call .before .before .wide-pair .ensures .0 in
     rw e
     (more (now (a .book)) (a .b) (now (a .pairs)) (now (a .out)) (a .w) (h .loop .out) (h .loop .at) (h .loop .row) (h .loop .next) (h .loop .i)
     (h .loop .inv) (omega arith) (call .put-pair .last .0) (call .put-pair .result)
@@ -90,9 +90,9 @@ put-pairs-spec =
     Inv-loop
     μ-loop
     loop-holds
-    mul-wider
-    shared-slice-read-wider
-    wider-requires
+    mul-wide-pair
+    shared-slice-read-wide-pair
+    wide-pair-requires
     put-pair-requires
     add-next
     add-i

@@ -1,6 +1,7 @@
 -- `compression::reader::take_bits` meets its contract. Assumes nothing.
 use mathlib.Core.Path.{sym, ap, _∙_, subst}
 use Prim.Native.Nat.{ℕ, _+_, _^_, _<_}
+use native.Mathlib.Omega.{arith}
 use denote.Ref.{now}
 use borrow.Author.Needs.{needs}
 use Rattle.streams.specs.Stream.{number, wordBits}
@@ -27,7 +28,7 @@ skip-requires c κs =
     let start = c .before .before .before .before .before in
     let a = start .args in
     let h = subst (SeenBy (now (a .stream)) (a .cursor) (a .count)) (c .before .bits .given .1) (c .before .before .before .look .ensures) in
-    (h .4, start .pre .1)
+    (h .4, omega (arith, start .pre .1))
 
 returns : tie.Need-returns
 returns c =

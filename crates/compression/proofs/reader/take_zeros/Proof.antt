@@ -69,7 +69,7 @@ zeros-in-requires c κs =
     let s = lent-of (head-of b) in
     let h = sees b in
     let l = bitsAt-lt (number s) (placeOf (head-of b .loop .at)) 8 in
-    (omega arith, omega arith)
+    omega arith
 
 cast-t11 : tie.Need-cast-t11 Inv-loop μ-loop
 cast-t11 c = search needs

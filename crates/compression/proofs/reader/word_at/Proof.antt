@@ -6,20 +6,20 @@ use Rattle.compression.proofs.ReaderStream.{four-bytes}
 use Rattle.compression.proofs.reader.word_at.Statement.{statement}
 use Rattle.compression.proofs.reader.word_at.Tie as tie
 
-shared-slice-read-wide : tie.Need-shared-slice-read-wide
-shared-slice-read-wide c = search needs
+shared-slice-read-wide-byte : tie.Need-shared-slice-read-wide-byte
+shared-slice-read-wide-byte c = search needs
 
-wide-requires : tie.Need-wide-requires
-wide-requires c κs = search needs
+wide-byte-requires : tie.Need-wide-byte-requires
+wide-byte-requires c κs = search needs
 
-add-wide : tie.Need-add-wide
-add-wide c = search needs
+add-wide-byte : tie.Need-add-wide-byte
+add-wide-byte c = search needs
 
-shared-slice-read-wide-2 : tie.Need-shared-slice-read-wide-2
-shared-slice-read-wide-2 c = search needs
+shared-slice-read-wide-byte-2 : tie.Need-shared-slice-read-wide-byte-2
+shared-slice-read-wide-byte-2 c = search needs
 
-wide-requires-2 : tie.Need-wide-requires-2
-wide-requires-2 c κs = search needs
+wide-byte-requires-2 : tie.Need-wide-byte-requires-2
+wide-byte-requires-2 c κs = search needs
 
 mul-result : tie.Need-mul-result
 mul-result c = search needs
@@ -27,14 +27,14 @@ mul-result c = search needs
 add-result : tie.Need-add-result
 add-result c = search needs
 
-add-wide-2 : tie.Need-add-wide-2
-add-wide-2 c = search needs
+add-wide-byte-2 : tie.Need-add-wide-byte-2
+add-wide-byte-2 c = search needs
 
-shared-slice-read-wide-3 : tie.Need-shared-slice-read-wide-3
-shared-slice-read-wide-3 c = search needs
+shared-slice-read-wide-byte-3 : tie.Need-shared-slice-read-wide-byte-3
+shared-slice-read-wide-byte-3 c = search needs
 
-wide-requires-3 : tie.Need-wide-requires-3
-wide-requires-3 c κs = search needs
+wide-byte-requires-3 : tie.Need-wide-byte-requires-3
+wide-byte-requires-3 c κs = search needs
 
 mul-result-2 : tie.Need-mul-result-2
 mul-result-2 c = search needs
@@ -42,14 +42,14 @@ mul-result-2 c = search needs
 add-result-2 : tie.Need-add-result-2
 add-result-2 c = search needs
 
-add-wide-3 : tie.Need-add-wide-3
-add-wide-3 c = search needs
+add-wide-byte-3 : tie.Need-add-wide-byte-3
+add-wide-byte-3 c = search needs
 
-shared-slice-read-wide-4 : tie.Need-shared-slice-read-wide-4
-shared-slice-read-wide-4 c = search needs
+shared-slice-read-wide-byte-4 : tie.Need-shared-slice-read-wide-byte-4
+shared-slice-read-wide-byte-4 c = search needs
 
-wide-requires-4 : tie.Need-wide-requires-4
-wide-requires-4 c κs = search needs
+wide-byte-requires-4 : tie.Need-wide-byte-requires-4
+wide-byte-requires-4 c κs = search needs
 
 mul-result-3 : tie.Need-mul-result-3
 mul-result-3 c = search needs
@@ -67,21 +67,21 @@ pub word-at-spec : {M : Type 1} → statement M
 word-at-spec =
     tie.close
     (tie.spec
-    shared-slice-read-wide
-    wide-requires
-    add-wide
-    shared-slice-read-wide-2
-    wide-requires-2
+    shared-slice-read-wide-byte
+    wide-byte-requires
+    add-wide-byte
+    shared-slice-read-wide-byte-2
+    wide-byte-requires-2
     mul-result
     add-result
-    add-wide-2
-    shared-slice-read-wide-3
-    wide-requires-3
+    add-wide-byte-2
+    shared-slice-read-wide-byte-3
+    wide-byte-requires-3
     mul-result-2
     add-result-2
-    add-wide-3
-    shared-slice-read-wide-4
-    wide-requires-4
+    add-wide-byte-3
+    shared-slice-read-wide-byte-4
+    wide-byte-requires-4
     mul-result-3
     add-result-3
     returns)

@@ -1,12 +1,12 @@
--- `compression::pair_writer::low_bits` meets its contract. Assumes nothing.
+-- `compression::common::low_bits` meets its contract. Assumes nothing.
 use native.Mathlib.Omega.{arith}
 use native.Mathlib.Nat.{mod-lt}
 use mathlib.Core.Path.{refl}
 use lib.Pow.{pow-pos}
 use Rattle.laws.proofs.Shifts.{one-shl}
 use borrow.Author.Needs.{needs}
-use Rattle.compression.proofs.pair_writer.low_bits.Statement.{statement}
-use Rattle.compression.proofs.pair_writer.low_bits.Tie as tie
+use Rattle.compression.proofs.common.low_bits.Statement.{statement}
+use Rattle.compression.proofs.common.low_bits.Tie as tie
 
 shl-result : tie.Need-shl-result
 shl-result c = search needs
