@@ -38,7 +38,8 @@ bit-of-requires : tie.Need-bit-of-requires
 bit-of-requires c κs =
     let start = start-of (c .before) in
     let st = taken (c .before) .1 in
-    (omega (arith, start .pre .0 .0, st .inside), st .from)
+    let from = start .pre .1 .0 in
+    (omega (arith, start .pre .0 .0, st .inside, from .inside), omega (arith, st .from, from .from))
 
 judge-requires : tie.Need-judge-requires
 judge-requires c κs =
