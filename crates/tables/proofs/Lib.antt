@@ -1,0 +1,7 @@
+pub mod Laws
+pub mod Paths
+pub mod Delete
+pub mod Refilled
+pub mod Finger
+pub mod Extract
+pub mod Walk

@@ -1,0 +1,5 @@
+pub mod Slots
+pub mod Changes
+pub mod Listings
+pub mod Shapes
+pub mod Calls
