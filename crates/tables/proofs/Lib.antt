@@ -1,6 +1,7 @@
 pub mod Laws
 pub mod Paths
 pub mod Delete
+pub mod Shift
 pub mod Refilled
 pub mod Finger
 pub mod Extract
