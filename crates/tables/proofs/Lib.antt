@@ -7,3 +7,6 @@ pub mod Finger
 pub mod Extract
 pub mod Walk
 pub mod Bridges
+pub mod Items
+pub mod Build
+pub mod Sizes
