@@ -10,3 +10,4 @@ pub mod Bridges
 pub mod Items
 pub mod Build
 pub mod Sizes
+pub mod Halving
