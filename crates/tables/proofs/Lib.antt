@@ -11,3 +11,4 @@ pub mod Items
 pub mod Build
 pub mod Sizes
 pub mod Halving
+pub mod Changed
