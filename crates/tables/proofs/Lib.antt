@@ -12,3 +12,4 @@ pub mod Build
 pub mod Sizes
 pub mod Halving
 pub mod Changed
+pub mod Says
