@@ -64,7 +64,7 @@ unfolding itemsJudged
 items-end v i list h = rw (drop-of-length-le list h)
 
 -- a list that is accepted is fine, item by item
-pub items-fine : (v i : ℕ) (list : List ℕ) → itemsJudged v i list ≡ accepted [] → (k : ℕ) → k < length list → Fine v (getD list k 0)
+pub items-fine : (v i : ℕ) (list : List ℕ) {values : List ℕ} → itemsJudged v i list ≡ accepted values → (k : ℕ) → k < length list → Fine v (getD list k 0)
 unfolding itemsJudged
 items-fine v i [] e k h = absurd (omega arith)
 items-fine v i (x ∷ more) e zero h = fine-item v x i (first-accepted (itemJudged v x i) (itemsJudged v (suc i) more) e .1)

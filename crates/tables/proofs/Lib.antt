@@ -13,3 +13,4 @@ pub mod Sizes
 pub mod Halving
 pub mod Changed
 pub mod Says
+pub mod Lasting

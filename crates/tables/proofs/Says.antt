@@ -1,36 +1,37 @@
 -- What the calls on a lawful table say, case by case. Assumes nothing.
 use mathlib.Core.Path.{_≡_, refl, sym, ap, _∙_, subst}
-use mathlib.Core.Bool.{Bool, true, false, not, _||_}
+use mathlib.Core.Bool.{Bool, true, false, not, _||_, true≢false}
 use mathlib.Core.Logic.{_⊎_, inl, inr, ⊎-elim}
 use mathlib.Core.List.{List, [], _∷_}
 use Prim.Native.Nat.{ℕ, zero, suc, _+_, _-_, _*_, _^_, _≤_, _<_}
 use native.Mathlib.Omega.{arith}
 use lib.ListN.{length, getD}
 use lib.Dec.{eqb, leb, ltb}
-use borrow.Author.Tests.{eq-eqb, ne-eqb, eqb-true, eqb-false, ltb-true, ltb-false, leb-true, leb-false, lt-ltb, le-leb}
+use borrow.Author.Tests.{eq-eqb, eqb-true, ltb-false, leb-false, not-false}
 use Rattle.laws.specs.Choose.{choose}
 use Rattle.refusals.specs.Outcome.{Outcome, accepted, refused, stopped, andThen}
 use Rattle.tables.specs.Slots.{empty, holds, lawful}
 use Rattle.tables.specs.Changes.{fits, halvedLg, buildLg}
-use Rattle.tables.specs.Calls.{unequal, unchanged, changed, recordOf, tableJudged, itemJudged, growthJudged, insertOf, deleteOf}
+use Rattle.tables.specs.Calls.{unequal, unchanged, changed, recordOf, tableJudged, itemJudged, growthJudged, itemsJudged, twiceJudged, insertOf, deleteOf, buildOf}
 use Rattle.tables.specs.Shapes.{Lawful, Member}
 use Rattle.tables.proofs.Paths.{same-or-not, le-or-lt}
-use Rattle.tables.proofs.Items.{Fine, never, item-fine, item-empty, item-large}
+use Rattle.tables.proofs.Items.{Fine, never, first-accepted, then-accepted, item-fine, item-empty, item-large, items-fine}
 use Rattle.tables.proofs.Bridges.{lawful-is, is-lawful, holds-member, not-holds}
+use Rattle.tables.proofs.Build.{twice-none, none-twice}
+
+-- a chain of refusals that is accepted: the first test fails, and the rest is accepted
+pub past : (b : Bool) (number : ℕ) (rest : Outcome) {values : List ℕ} → choose b (refused number 0) rest ≡ accepted values → (b ≡ false) × (rest ≡ accepted values)
+past true number rest e = absurd (never e)
+past false number rest e = (refl, e)
 
 -- a table is accepted exactly if its spare is as long as its region and it is lawful
 pub judged-is : (s e : List ℕ) (lg v c : ℕ) {values : List ℕ} → tableJudged s e lg v c ≡ accepted values → (length s ≡ length e) × Lawful s lg v c
 unfolding tableJudged
-judged-is s e lg v c {values} z = go (eqb (length s) (length e)) refl z
-  where
-    second : length s ≡ length e → (b : Bool) → lawful s lg v c ≡ b → choose (not b) (refused 15 0) (accepted []) ≡ accepted values → (length s ≡ length e) × Lawful s lg v c
-    second long true f z = (long, lawful-is s lg v c f)
-    second long false f z = absurd (never z)
-
-    go : (b : Bool) → eqb (length s) (length e) ≡ b → choose (not b) (refused 2 0) (choose (not (lawful s lg v c)) (refused 15 0) (accepted [])) ≡ accepted values
-        → (length s ≡ length e) × Lawful s lg v c
-    go true f z = second (eqb-true (length s) (length e) f) (lawful s lg v c) refl z
-    go false f z = absurd (never z)
+judged-is s e lg v c {values} z =
+    let second : Outcome = choose (not (lawful s lg v c)) (refused 15 0) (accepted []) in
+    let f = past (unequal s e) 2 second z in
+    let g = past (not (lawful s lg v c)) 15 (accepted []) (f .1) in
+    (eqb-true (length s) (length e) (not-false (eqb (length s) (length e)) (f .0)), lawful-is s lg v c (not-false (lawful s lg v c) (g .0)))
 
 pub is-judged : (s e : List ℕ) (lg v c : ℕ) → length s ≡ length e → Lawful s lg v c → tableJudged s e lg v c ≡ accepted []
 unfolding tableJudged
@@ -65,6 +66,13 @@ growth-says s lg v = go (ltb 26 lg) refl (leb v lg) refl (ltb (length s) (2 ^ lg
     go false p true q d r = cannot
     go false p false q true r = cannot
     go false p false q false r = can (ltb-false 26 lg p) (leb-false v lg q) (ltb-false (length s) (2 ^ lg) r)
+
+pub can-grow : (s : List ℕ) (lg v : ℕ) {values : List ℕ} → growthJudged s lg v ≡ accepted values → (lg ≤ 26) × (lg < v) × (2 ^ lg ≤ length s)
+can-grow s lg v {values} e = go (growthJudged s lg v) (growth-says s lg v) e
+  where
+    go : (o : Outcome) → GrowthSays s lg v o → o ≡ accepted values → (lg ≤ 26) × (lg < v) × (2 ^ lg ≤ length s)
+    go (refused number place) cannot z = absurd (never z)
+    go (accepted []) (can a b d) z = (a, b, d)
 
 -- an insert: refused, or the item was there, or it goes without growth, or it must grow and may
 pub data InsertSays (s : List ℕ) (lg v c x : ℕ) : Outcome → Type 0 where
@@ -114,3 +122,47 @@ delete-says s e lg v c x long l = rw (is-judged s e lg v c long l) (item (itemJu
     item : (o : Outcome) → ItemSays v x o → DeleteSays s lg v c x (andThen o (choose (holds s (2 ^ lg) x) (changed (halvedLg lg lg (c - 1)) v (c - 1)) unchanged))
     item (refused number place) bad = refuses
     item (accepted []) (good w) = has w (holds s (2 ^ lg) x) refl
+
+-- a build that is accepted
+pub record BuildSays (s e : List ℕ) (v : ℕ) (list : List ℕ) : Type 0 where
+  pub equal : length s ≡ length e
+  pub bits-most : v ≤ 32
+  pub fine : (k : ℕ) → k < length list → Fine v (getD list k 0)
+  pub most : buildLg (length list) ≤ 26
+  pub below : buildLg (length list) < v
+  pub room : 2 ^ buildLg (length list) ≤ length s
+  pub once : twiceJudged list (length list) 0 ≡ accepted []
+  pub says : buildOf s e v list ≡ recordOf (buildLg (length list)) v (length list)
+
+pub build-says : (s e : List ℕ) (v : ℕ) (list : List ℕ) {values : List ℕ} → buildOf s e v list ≡ accepted values → BuildSays s e v list
+unfolding buildOf
+build-says s e v list {values} z =
+    let n : ℕ = length list in
+    let last : Outcome = recordOf (buildLg (length list)) v (length list) in
+    let twice : Outcome = andThen (twiceJudged list (length list) 0) last in
+    let growth : Outcome = andThen (growthJudged s (buildLg (length list)) v) twice in
+    let fine : Outcome = andThen (itemsJudged v 0 list) growth in
+    let few : Outcome = choose (ltb (2 ^ 28) (length list)) (refused 4 0) fine in
+    let bits : Outcome = choose (ltb v 3 || ltb 32 v) (refused 15 0) few in
+    let z₁ : bits ≡ accepted values = past (unequal s e) 2 bits z .1 in
+    let z₂ : few ≡ accepted values = past (ltb v 3 || ltb 32 v) 15 few z₁ .1 in
+    let z₃ : fine ≡ accepted values = past (ltb (2 ^ 28) (length list)) 4 fine z₂ .1 in
+    let z₄ : growth ≡ accepted values = then-accepted (itemsJudged v 0 list) growth z₃ in
+    let z₅ : twice ≡ accepted values = then-accepted (growthJudged s (buildLg (length list)) v) twice z₄ in
+    let z₆ : last ≡ accepted values = then-accepted (twiceJudged list (length list) 0) last z₅ in
+    let g = can-grow s (buildLg (length list)) v (first-accepted (growthJudged s (buildLg (length list)) v) twice z₄ .1) in
+    let h = first-accepted (twiceJudged list (length list) 0) last z₅ .1 in
+    record {
+      equal = eqb-true (length s) (length e) (not-false (eqb (length s) (length e)) (past (unequal s e) 2 bits z .0));
+      bits-most = ltb-false 32 v (neither (ltb v 3) (ltb 32 v) (past (ltb v 3 || ltb 32 v) 15 few z₁ .0));
+      fine = items-fine v 0 list (first-accepted (itemsJudged v 0 list) growth z₃ .1);
+      most = g .0;
+      below = g .1;
+      room = g .2;
+      once = twice-none list (length list) 0 (none-twice list (length list) 0 h);
+      says = z ∙ sym z₆;
+    }
+  where
+    neither : (a b : Bool) → (a || b) ≡ false → b ≡ false
+    neither true b e = absurd (true≢false e)
+    neither false b e = e
