@@ -14,3 +14,5 @@ pub mod Halving
 pub mod Changed
 pub mod Says
 pub mod Lasting
+pub mod Number
+pub mod PlainSet
