@@ -10,13 +10,13 @@ use lib.Dec.{eqb, leb, ltb}
 use borrow.Author.Tests.{eq-eqb, eqb-true, ltb-false, leb-false, not-false}
 use Rattle.laws.specs.Choose.{choose}
 use Rattle.refusals.specs.Outcome.{Outcome, accepted, refused, stopped, andThen}
-use Rattle.tables.specs.Slots.{empty, holds, lawful}
+use Rattle.tables.specs.Slots.{empty, holds, sized, lawful}
 use Rattle.tables.specs.Changes.{fits, halvedLg, buildLg}
-use Rattle.tables.specs.Calls.{unequal, unchanged, changed, recordOf, tableJudged, itemJudged, growthJudged, itemsJudged, twiceJudged, insertOf, deleteOf, buildOf}
+use Rattle.tables.specs.Calls.{unequal, unchanged, changed, recordOf, tableJudged, itemJudged, growthJudged, itemsJudged, twiceJudged, insertOf, deleteOf, buildOf, newOf}
 use Rattle.tables.specs.Shapes.{Lawful, Member}
 use Rattle.tables.proofs.Paths.{same-or-not, le-or-lt}
 use Rattle.tables.proofs.Items.{Fine, never, first-accepted, then-accepted, item-fine, item-empty, item-large, items-fine}
-use Rattle.tables.proofs.Bridges.{lawful-is, is-lawful, holds-member, not-holds}
+use Rattle.tables.proofs.Bridges.{Sized, sized-is, lawful-is, is-lawful, holds-member, not-holds}
 use Rattle.tables.proofs.Build.{twice-none, none-twice}
 
 -- a chain of refusals that is accepted: the first test fails, and the rest is accepted
@@ -166,3 +166,25 @@ build-says s e v list {values} z =
     neither : (a b : Bool) → (a || b) ≡ false → b ≡ false
     neither true b e = absurd (true≢false e)
     neither false b e = e
+
+-- a new table that is accepted
+pub record NewSays (s e : List ℕ) (lg v : ℕ) : Type 0 where
+  pub equal : length s ≡ length e
+  pub sizes : Sized lg v
+  pub room : 2 ^ lg ≤ length s
+  pub says : newOf s e lg v ≡ recordOf lg v 0
+
+pub new-says : (s e : List ℕ) (lg v : ℕ) {values : List ℕ} → newOf s e lg v ≡ accepted values → NewSays s e lg v
+unfolding newOf
+new-says s e lg v z =
+    let third : Outcome = choose (ltb (length s) (2 ^ lg)) (refused 5 0) (recordOf lg v 0) in
+    let second : Outcome = choose (not (sized lg v)) (refused 15 0) third in
+    let f = past (unequal s e) 2 second z in
+    let g = past (not (sized lg v)) 15 third (f .1) in
+    let h = past (ltb (length s) (2 ^ lg)) 5 (recordOf lg v 0) (g .1) in
+    record {
+      equal = eqb-true (length s) (length e) (not-false (eqb (length s) (length e)) (f .0));
+      sizes = sized-is lg v (not-false (sized lg v) (g .0));
+      room = ltb-false (length s) (2 ^ lg) (h .0);
+      says = z ∙ sym (h .1);
+    }
