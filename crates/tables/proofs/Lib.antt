@@ -18,3 +18,5 @@ pub mod Says
 pub mod Lasting
 pub mod Number
 pub mod PlainSet
+pub mod Once
+pub mod Stride
