@@ -20,3 +20,4 @@ pub mod Number
 pub mod PlainSet
 pub mod Once
 pub mod Stride
+pub mod Walking
