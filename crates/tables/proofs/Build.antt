@@ -1,9 +1,9 @@
 -- Building a table from a list: it takes every item exactly if none stands twice, and stops at the first that stands earlier in the list. Assumes nothing.
 use mathlib.Core.Path.{_≡_, refl, sym, ap, _∙_, subst}
 use mathlib.Core.Bool.{Bool, true, false, true≢false}
-use mathlib.Core.Logic.{_⊎_, inl, inr, ⊎-elim}
-use mathlib.Core.List.{List, [], _∷_}
-use Prim.Native.Nat.{ℕ, zero, suc, _+_, _-_, _*_, _^_, _≤_, _<_}
+use mathlib.Core.Logic.{inl, inr, ⊎-elim}
+use mathlib.Core.List.{List, []}
+use Prim.Native.Nat.{ℕ, zero, suc, _+_, _*_, _^_, _≤_, _<_}
 use native.Mathlib.Omega.{arith}
 use native.Mathlib.Nat.{eq-or-lt-of-le}
 use native.Mathlib.Numerals.{add-one}
@@ -12,13 +12,13 @@ use lib.Dec.{eqb}
 use borrow.Author.Tests.{eq-eqb, ne-eqb}
 use Rattle.laws.specs.Choose.{choose}
 use Rattle.laws.proofs.Truths.{never-true}
-use Rattle.refusals.specs.Outcome.{Outcome, accepted, refused}
+use Rattle.refusals.specs.Outcome.{accepted, refused}
 use Rattle.tables.specs.Slots.{empty, spot, holds}
 use Rattle.tables.specs.Changes.{place, fill}
 use Rattle.tables.specs.Calls.{twiceJudged}
 use Rattle.tables.specs.Shapes.{Lawful, Member, Built}
 use Rattle.tables.proofs.Laws.{at-or-below}
-use Rattle.tables.proofs.Paths.{spot-lt, at-end, only-there, place-lawful, place-member, member-place}
+use Rattle.tables.proofs.Paths.{spot-lt, at-end, place-lawful, place-member, member-place}
 use Rattle.tables.proofs.Refilled.{fill-one, none-in}
 use Rattle.tables.proofs.Items.{Fine, never}
 use Rattle.tables.proofs.Bridges.{holds-at, at-holds}

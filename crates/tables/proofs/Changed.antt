@@ -1,16 +1,15 @@
 -- What an insert and a delete leave: a lawful table of the set with x, or without it. Assumes nothing.
-use mathlib.Core.Path.{_≡_, refl, sym, ap, _∙_, subst}
+use mathlib.Core.Path.{_≡_, refl, _∙_}
 use mathlib.Core.Bool.{Bool, true, false}
-use mathlib.Core.Logic.{_⊎_, inl, inr, ⊎-elim}
+use mathlib.Core.Logic.{_⊎_, inl, inr}
 use mathlib.Core.List.{List}
 use Prim.Native.Nat.{ℕ, zero, suc, _+_, _-_, _*_, _^_, _≤_, _<_}
-use native.Mathlib.Omega.{arith}
 use lib.ListN.{length, getD, set, length-set}
-use lib.Dec.{eqb, leb}
-use borrow.Author.Tests.{leb-true, leb-false}
+use lib.Dec.{eqb}
+use borrow.Author.Tests.{leb-true}
 use Rattle.laws.specs.Choose.{choose}
 use Rattle.tables.specs.Slots.{empty, spot, next}
-use Rattle.tables.specs.Changes.{place, reseat, remove, rebuilt, fits, inserted, halvedLg, halved, deleted}
+use Rattle.tables.specs.Changes.{place, reseat, remove, rebuilt, fits, inserted, halvedLg, deleted}
 use Rattle.tables.specs.Shapes.{Lawful, Member, Stored, Grown, Removed}
 use Rattle.tables.proofs.Paths.{spot-lt, only-there, length-place, stored-new}
 use Rattle.tables.proofs.Delete.{removed-some}

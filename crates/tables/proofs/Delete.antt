@@ -1,23 +1,22 @@
 -- Deleting an item: its slot is emptied, and each item up to the next empty slot is taken and stored again. Assumes nothing.
 use mathlib.Core.Path.{_≡_, refl, sym, ap, _∙_, subst}
-use mathlib.Core.Bool.{Bool, true, false, true≢false, false≢true}
+use mathlib.Core.Bool.{true, false, true≢false, false≢true}
 use mathlib.Core.Logic.{_⊎_, inl, inr, ⊎-elim}
 use mathlib.Core.List.{List}
-use Prim.Native.Nat.{ℕ, zero, suc, _+_, _-_, _*_, _^_, _≤_, _<_}
+use Prim.Native.Nat.{ℕ, zero, suc, _+_, _-_, _^_, _≤_, _<_}
 use native.Mathlib.Omega.{arith}
-use native.Mathlib.Nat.{le-trans, eq-or-lt-of-le, eq-zero-or-pos, lt-of-lt-of-le as lt-le}
-use native.Mathlib.Numerals.{add-one}
+use native.Mathlib.Nat.{eq-or-lt-of-le, lt-of-lt-of-le as lt-le}
 use lib.ListN.{length, getD, set, length-set}
 use lib.Seq.{getD-set-same, getD-set-other}
 use lib.Dec.{eqb}
 use lib.Pow.{pow-pos}
 use borrow.Author.Tests.{eq-eqb, ne-eqb}
 use Rattle.laws.specs.Choose.{choose}
-use Rattle.tables.specs.Slots.{empty, home, next, stops, probe, spot, held, total, items}
+use Rattle.tables.specs.Slots.{empty, home, next, stops, spot, held, total}
 use Rattle.tables.specs.Changes.{place, reseat, remove}
-use Rattle.tables.specs.Shapes.{steps, Placed, AllPlaced, EmptyFrom, Lawful, Member, AllSmall, Removed}
+use Rattle.tables.specs.Shapes.{steps, AllPlaced, Lawful, Member, AllSmall, Removed}
 use Rattle.tables.proofs.Laws.{stops-same, stops-empty, stops-not, home-lt, held-empty, held-full}
-use Rattle.tables.proofs.Paths.{same-or-not, le-or-lt, steps-add, steps-line, steps-behind, steps-lt, steps-inj, Ends, ends-within, meets, Path-to, path-of, path-spot, path-fill, stops-value, total-set, some-empty, length-place, only-there}
+use Rattle.tables.proofs.Paths.{same-or-not, le-or-lt, steps-add, steps-line, steps-behind, steps-lt, steps-inj, Ends, ends-within, meets, Path-to, path-of, path-spot, path-fill, stops-value, total-set, some-empty, only-there}
 
 -- How often y stands in a region.
 pub one : ℕ → ℕ → ℕ

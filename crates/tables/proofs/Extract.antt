@@ -1,18 +1,15 @@
 -- Laws of extraction. Assumes nothing.
-use mathlib.Core.Path.{_≡_, refl, sym, ap, _∙_, subst}
-use mathlib.Core.Bool.{Bool, true, false, not}
-use mathlib.Core.Logic.{_⊎_, inl, inr, ⊎-elim}
+use mathlib.Core.Path.{_≡_, refl, sym, ap, _∙_}
+use mathlib.Core.Logic.{⊎-elim}
 use mathlib.Core.List.{List, [], _∷_, _++_, append-assoc, append-nil}
-use Prim.Native.Nat.{ℕ, zero, suc, _+_, _-_, _*_, _^_, _≤_, _<_}
+use Prim.Native.Nat.{ℕ, suc, _+_, _-_, _^_, _≤_, _<_}
 use native.Mathlib.Omega.{arith}
 use native.Mathlib.Numerals.{add-one}
 use lib.ListN.{length, getD, set, take, drop, length-set, length-append, take-append-drop}
 use lib.Seq.{getD-set-same, drop-cons, drop-set-lt, take-set-le, take-suc-set, drop-drop}
 use borrow.Author.Tests.{le-leb, lt-leb, eq-eqb, ne-eqb}
-use Rattle.laws.specs.Choose.{choose}
 use Rattle.tables.specs.Slots.{empty, held, total, items}
-use Rattle.tables.specs.Listings.{high}
-use Rattle.tables.specs.Shapes.{snoc, lows, highs, Front, Split, rest, Rest, Extracted}
+use Rattle.tables.specs.Shapes.{lows, highs, Split, rest, Rest, Extracted}
 use Rattle.tables.proofs.Laws.{items-full, items-empty, at-or-below}
 use Rattle.tables.proofs.Refilled.{total-mono}
 

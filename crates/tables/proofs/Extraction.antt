@@ -1,20 +1,19 @@
 -- The extraction is what a call writes in two parts, and it lists each item of the table once. Assumes nothing.
-use mathlib.Core.Path.{_≡_, refl, sym, ap, ap₂, _∙_, subst}
+use mathlib.Core.Path.{_≡_, refl, sym, ap, ap₂, _∙_}
 use mathlib.Core.Bool.{Bool, true, false, not}
-use mathlib.Core.Logic.{_⊎_, inl, inr, ⊎-elim}
 use mathlib.Core.List.{List, [], _∷_, _++_, append-assoc}
 use Prim.Native.Nat.{ℕ, zero, suc, _+_, _-_, _^_, _≤_, _<_}
 use native.Mathlib.Omega.{arith}
 use native.Mathlib.Nat.{zero-add}
 use lib.ListN.{length, getD, take, drop, length-drop}
 use lib.Seq.{take-suc, take-add, drop-at, length-take-le, getD-take, getD-drop, take-take}
-use lib.Dec.{eqb, leb}
+use lib.Dec.{eqb}
 use borrow.Author.Tests.{eq-eqb, ne-eqb}
 use Rattle.laws.specs.Choose.{choose}
-use Rattle.tables.specs.Slots.{empty, items}
+use Rattle.tables.specs.Slots.{empty}
 use Rattle.tables.specs.Listings.{keep, backwards, isItem, high, front, extraction}
 use Rattle.tables.specs.Shapes.{snoc, lows, highs, rest, Front, Extracted, Lawful}
-use Rattle.tables.proofs.Kept.{sumOf, timesIn, sum-append, sum-backwards, sum-keep, sum-length, keep-snoc, backwards-snoc, kept-items}
+use Rattle.tables.proofs.Kept.{sumOf, timesIn, sum-append, sum-backwards, sum-length, keep-snoc, backwards-snoc, kept-items}
 
 -- of the first k slots, the items with the bit clear and those with it set
 pub lows-is : (s : List ℕ) (v k : ℕ) → k ≤ length s → keep (λ x. not (high v x)) (take k s) ≡ lows s v k

@@ -1,9 +1,9 @@
 -- Building with a finger: an item above all before it, whose home is in the run of items that the last store ended, is searched for from that run's end. Assumes nothing.
-use mathlib.Core.Path.{_≡_, refl, sym, ap, _∙_, subst}
-use mathlib.Core.Bool.{Bool, true, false, true≢false, false≢true}
-use mathlib.Core.Logic.{_⊎_, inl, inr, ⊎-elim}
+use mathlib.Core.Path.{_≡_, refl, sym, ap, _∙_}
+use mathlib.Core.Bool.{true, false, true≢false}
+use mathlib.Core.Logic.{⊎-elim}
 use mathlib.Core.List.{List}
-use Prim.Native.Nat.{ℕ, zero, suc, _+_, _-_, _*_, _^_, _≤_, _<_}
+use Prim.Native.Nat.{ℕ, _+_, _-_, _*_, _^_, _≤_, _<_}
 use native.Mathlib.Omega.{arith}
 use native.Mathlib.Nat.{le-trans, eq-or-lt-of-le, lt-of-lt-of-le as lt-le}
 use lib.ListN.{length, getD, set, length-set}
@@ -12,26 +12,12 @@ use lib.Seq.{getD-set-same, getD-set-other}
 use Rattle.tables.specs.Slots.{empty, home, next, stops, probe, spot}
 use Rattle.tables.specs.Changes.{place, fill}
 use Rattle.tables.specs.Shapes.{steps, Lawful, RunUp, AllUnder, Member, Stored, Built}
-use Rattle.tables.proofs.Laws.{stops-empty, stops-not, at-or-below}
-use Rattle.tables.proofs.Paths.{same-or-not, le-or-lt, steps-add, steps-lt, steps-inj, next-lt, Ends, probe-ends, Path-to, path, homed, at-end, stored-new, run-none}
+use Rattle.tables.proofs.Laws.{stops-empty, at-or-below}
+use Rattle.tables.proofs.Paths.{same-or-not, le-or-lt, steps-add, steps-lt, next-lt, probe-ends, Path-to, path, homed, at-end, stored-new, run-clear, run-none}
 use Rattle.tables.proofs.Delete.{steps-apart, step-on}
 use Rattle.tables.proofs.Refilled.{fill-one, items-some}
 
--- a search whose home is in a run of items below x walks the run to its end
-run-clear : (s : List ℕ) (n x h p len top d : ℕ) → RunUp s n p len top → h < n → steps n h d ≡ p → d ≤ len → top < x → (k : ℕ) → k < d → stops s x (steps n h k) ≡ false
-run-clear s n x h p len top d u hn there near above k l =
-    rw (along k) (stops-not s x (steps n (u .from) (len - d + k)) (λ g. omega (arith, g, u .under (len - d + k) (omega arith))) (u .full (len - d + k) (omega arith)))
-  where
-    joins : h ≡ steps n (u .from) (len - d)
-    joins =
-        let e : len - d + d ≡ len = omega arith in
-        steps-inj n h (steps n (u .from) (len - d)) d hn (steps-lt n (u .from) (len - d) (u .from-lt))
-        (there ∙ sym (u .meets) ∙ ap (steps n (u .from)) (sym e) ∙ steps-add n (u .from) (len - d) d)
-
-    along : (k : ℕ) → steps n h k ≡ steps n (u .from) (len - d + k)
-    along k = ap (λ z. steps n z k) joins ∙ sym (steps-add n (u .from) (len - d) k)
-
--- so it may as well start there
+-- a search whose home is in a run of items below x may as well start at the run's end
 pub resume : (s : List ℕ) (lg v c x p len top d : ℕ) → Lawful s lg v c → x < 2 ^ v → (x ≡ empty → ⊥) → RunUp s (2 ^ lg) p len top
     → steps (2 ^ lg) (home lg v x) d ≡ p → d ≤ len → top < x → spot s lg v x ≡ probe s (2 ^ lg) x (2 ^ lg) p
 resume s lg v c x p len top d l xs xe u there near above =

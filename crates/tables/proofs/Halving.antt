@@ -1,17 +1,15 @@
 -- Halving a table: each turn is a rebuild that keeps the set, and the end is lawful. Assumes nothing.
-use mathlib.Core.Path.{_≡_, refl, sym, ap, _∙_, subst}
+use mathlib.Core.Path.{_≡_, refl, _∙_}
 use mathlib.Core.Bool.{Bool, true, false, _&&_}
-use mathlib.Core.Logic.{_⊎_, inl, inr, ⊎-elim}
 use mathlib.Core.List.{List}
-use Prim.Native.Nat.{ℕ, zero, suc, _+_, _-_, _*_, _^_, _≤_, _<_}
+use Prim.Native.Nat.{ℕ, zero, suc, _-_, _*_, _^_, _≤_, _<_}
 use native.Mathlib.Omega.{arith}
-use native.Mathlib.Nat.{pow-suc, le-trans}
-use lib.Pow.{pow-mono}
+use native.Mathlib.Nat.{pow-suc}
 use lib.ListN.{length, length-replicate}
-use lib.Dec.{leb, ltb}
-use borrow.Author.Tests.{lt-ltb, le-ltb, ltb-true, ltb-false}
+use lib.Dec.{ltb}
+use borrow.Author.Tests.{lt-ltb, le-ltb, ltb-true}
 use Rattle.laws.specs.Choose.{choose}
-use Rattle.laws.proofs.Truths.{and-left, and-right, and-both, true-or-false}
+use Rattle.laws.proofs.Truths.{and-left, and-right, and-both}
 use Rattle.tables.specs.Slots.{empty}
 use Rattle.tables.specs.Changes.{rebuilt, halves, halvedLg, halved}
 use Rattle.tables.specs.Shapes.{Lawful, Sound, Member}

@@ -1,19 +1,16 @@
 -- The items that a table takes: judged one, and judged in a list. Assumes nothing.
-use mathlib.Core.Path.{_≡_, refl, sym, ap, _∙_}
-use mathlib.Core.Bool.{Bool, true, false}
-use mathlib.Core.Logic.{_⊎_, ⊎-elim}
+use mathlib.Core.Path.{_≡_, refl, sym, _∙_}
+use mathlib.Core.Logic.{⊎-elim}
 use mathlib.Core.List.{List, [], _∷_}
-use Prim.Native.Nat.{ℕ, zero, suc, _+_, _^_, _≤_, _<_}
+use Prim.Native.Nat.{ℕ, zero, suc, _^_, _≤_, _<_}
 use native.Mathlib.Omega.{arith}
 use lib.ListN.{length, getD, drop, drop-of-length-le}
 use lib.Seq.{drop-cons}
-use lib.Dec.{eqb, leb}
 use borrow.Author.Tests.{eq-eqb, ne-eqb, le-leb, lt-leb}
-use Rattle.laws.specs.Choose.{choose}
 use Rattle.refusals.specs.Outcome.{Outcome, accepted, refused, stopped, andThen}
 use Rattle.tables.specs.Slots.{empty}
 use Rattle.tables.specs.Calls.{itemJudged, itemsJudged}
-use Rattle.tables.proofs.Paths.{same-or-not, le-or-lt}
+use Rattle.tables.proofs.Paths.{le-or-lt}
 
 -- an item that a table of v valid bits takes
 pub record Fine (v x : ℕ) : Type 0 where

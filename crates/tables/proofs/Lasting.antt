@@ -1,26 +1,19 @@
 -- Never 15 next: what a call answers and leaves is a table that the next call takes. Assumes nothing.
-use mathlib.Core.Path.{_≡_, refl, sym, ap, _∙_, subst}
-use mathlib.Core.Bool.{Bool, true, false, not, _||_}
-use mathlib.Core.Logic.{_⊎_, inl, inr, ⊎-elim}
-use mathlib.Core.List.{List, [], _∷_}
-use Prim.Native.Nat.{ℕ, zero, suc, _+_, _-_, _*_, _^_, _≤_, _<_}
-use native.Mathlib.Omega.{arith}
+use mathlib.Core.Path.{_≡_, sym, ap, _∙_}
+use mathlib.Core.List.{List, []}
+use Prim.Native.Nat.{ℕ, _+_, _-_, _^_, _≤_, _<_}
 use lib.ListN.{length, getD, length-replicate}
-use lib.Dec.{eqb, leb, ltb}
-use Rattle.laws.specs.Choose.{choose}
-use Rattle.refusals.specs.Outcome.{Outcome, accepted, refused, stopped, andThen, ifAccepted}
+use Rattle.refusals.specs.Outcome.{Outcome, accepted, refused, ifAccepted}
 use Rattle.tables.specs.Slots.{empty}
 use Rattle.tables.specs.Changes.{blank, fill, inserted, deleted, halvedLg, buildLg}
-use Rattle.tables.specs.Calls.{recordOf, ifChanged, tableJudged, growthJudged, itemsJudged, twiceJudged, insertOf, deleteOf, insertRegion, deleteRegion, spareAfter, buildOf, ifBuilt, buildRegion, buildSpare, newOf, clearOf, blankIf}
+use Rattle.tables.specs.Calls.{recordOf, ifChanged, tableJudged, insertOf, deleteOf, buildOf, ifBuilt, buildRegion, buildSpare, newOf, clearOf, blankIf}
 use Rattle.tables.specs.Runs.{Table, Call, insert, delete, clear, valuesIn, judged, after}
-use Rattle.tables.specs.Shapes.{Lawful, Member}
+use Rattle.tables.specs.Shapes.{Lawful}
 use Rattle.tables.proofs.Refilled.{length-fill, blank-lawful}
-use Rattle.tables.proofs.Items.{Fine}
-use Rattle.tables.proofs.Bridges.{Sized}
 use Rattle.tables.proofs.Build.{build-lawful}
 use Rattle.tables.proofs.Sizes.{build-least, build-fits}
 use Rattle.tables.proofs.Changed.{length-inserted, kept-lawful, grown-lawful, deleted-lawful, length-deleted}
-use Rattle.tables.proofs.Says.{judged-is, is-judged, InsertSays, refuses, there, kept, grown, insert-says, DeleteSays, missing, taken, delete-says, BuildSays, build-says, NewSays, new-says}
+use Rattle.tables.proofs.Says.{judged-is, is-judged, InsertSays, refuses, there, kept, grown, insert-says, DeleteSays, missing, taken, delete-says, BuildSays, build-says, new-says}
 
 length-blank : (s : List ℕ) → length (blank s) ≡ length s
 length-blank s = length-replicate (length s) empty

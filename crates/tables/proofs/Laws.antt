@@ -1,9 +1,9 @@
 -- Laws of the search. Assumes nothing.
-use mathlib.Core.Path.{_≡_, refl, sym, ap, _∙_, subst}
+use mathlib.Core.Path.{_≡_, refl, sym, _∙_}
 use mathlib.Core.Bool.{Bool, true, false, _||_, true≢false, false≢true}
-use mathlib.Core.Logic.{_⊎_, inl, inr, ⊎-elim}
-use mathlib.Core.List.{List, [], _∷_}
-use Prim.Native.Nat.{ℕ, zero, suc, _+_, _-_, _*_, _/_, _^_, _≤_, _<_}
+use mathlib.Core.Logic.{_⊎_, ⊎-elim}
+use mathlib.Core.List.{List}
+use Prim.Native.Nat.{ℕ, zero, suc, _+_, _-_, _/_, _^_, _≤_, _<_}
 use native.Mathlib.Omega.{arith}
 use lib.ListN.{length, getD, set, replicate, length-replicate, getD-replicate}
 use lib.Seq.{getD-set-same, getD-set-other, ext-getD}
@@ -11,10 +11,9 @@ use lib.Dec.{eqb, ltb}
 use lib.Pow.{shr-lt}
 use native.Mathlib.Nat.{add-zero, eq-or-lt-of-le}
 use native.Mathlib.Numerals.{add-one}
-use borrow.Author.Tests.{eq-eqb, ne-eqb, eqb-true, eqb-false, ltb-true, ltb-false}
-use Rattle.laws.specs.Choose.{choose}
-use Rattle.tables.specs.Slots.{empty, home, next, stops, probe, spot, held, total, items}
-use Rattle.tables.specs.Shapes.{Decides, Placed, AllPlaced, EmptyFrom, Lawful}
+use borrow.Author.Tests.{eq-eqb, ne-eqb, ltb-true, ltb-false}
+use Rattle.tables.specs.Slots.{empty, next, stops, probe, held, total, items}
+use Rattle.tables.specs.Shapes.{Decides, Placed, AllPlaced, EmptyFrom}
 
 pub next-wrap : (n p : ℕ) → p + 1 ≡ n → next n p ≡ 0
 unfolding next

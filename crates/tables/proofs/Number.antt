@@ -1,22 +1,22 @@
 -- The items that a lawful table counts are the numbers that its set holds. Assumes nothing.
-use mathlib.Core.Path.{_≡_, refl, sym, ap, ap₂, _∙_, subst}
+use mathlib.Core.Path.{_≡_, refl, sym, ap, ap₂, _∙_}
 use mathlib.Core.Bool.{Bool, true, false, not, _&&_}
 use mathlib.Core.Logic.{_⊎_, inl, inr, ⊎-elim}
 use mathlib.Core.List.{List}
-use Prim.Native.Nat.{ℕ, zero, suc, _+_, _*_, _^_, _≤_, _<_}
+use Prim.Native.Nat.{ℕ, zero, suc, _+_, _^_, _<_}
 use native.Mathlib.Omega.{arith}
-use lib.ListN.{length, getD}
+use lib.ListN.{getD}
 use lib.Dec.{eqb}
 use borrow.Author.Tests.{eq-eqb, ne-eqb}
 use Rattle.laws.specs.Choose.{choose}
 use Rattle.laws.specs.Below.{one as told}
 use Rattle.laws.proofs.Sums.{sumBelow, sum-zero, sum-add, sum-same, single}
-use Rattle.tables.specs.Slots.{empty, total, held, items, holds}
-use Rattle.tables.specs.Shapes.{Lawful, Member}
+use Rattle.tables.specs.Slots.{empty, total, held, holds}
+use Rattle.tables.specs.Shapes.{Lawful}
 use Rattle.tables.proofs.Laws.{held-empty, held-full}
 use Rattle.tables.proofs.Paths.{same-or-not}
 use Rattle.tables.proofs.Delete.{one, one-same, one-other, tally-at, tally-some, once-lawful}
-use Rattle.tables.proofs.Bridges.{holds-at, at-holds, holds-not, not-holds}
+use Rattle.tables.proofs.Bridges.{holds-at, not-holds}
 
 -- 1 if the item y stands in a slot that holds a
 pub hit : ℕ → ℕ → ℕ

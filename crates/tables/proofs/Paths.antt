@@ -1,21 +1,20 @@
 -- Laws of where a search ends: it walks from its home, slot after slot, to the first that stops it. Assumes nothing.
-use mathlib.Core.Path.{_≡_, refl, sym, ap, _∙_, subst}
+use mathlib.Core.Path.{_≡_, refl, sym, ap, _∙_}
 use mathlib.Core.Bool.{Bool, true, false, true≢false, false≢true}
 use mathlib.Core.Logic.{_⊎_, inl, inr, ⊎-elim}
 use mathlib.Core.List.{List}
-use Prim.Native.Nat.{ℕ, zero, suc, _+_, _-_, _*_, _/_, _^_, _≤_, _<_}
+use Prim.Native.Nat.{ℕ, zero, suc, _+_, _-_, _*_, _^_, _≤_, _<_}
 use native.Mathlib.Omega.{arith}
 use native.Mathlib.Nat.{zero-add, suc-add, le-trans, eq-or-lt-of-le, eq-zero-or-pos}
-use native.Mathlib.Numerals.{add-one, lt-of-le-of-ne}
+use native.Mathlib.Numerals.{lt-of-le-of-ne}
 use lib.ListN.{length, getD, set, length-set}
 use lib.Seq.{getD-set-same, getD-set-other}
 use lib.Pow.{pow-pos}
-use Rattle.laws.specs.Choose.{choose}
 pub use Rattle.laws.proofs.Orders.{same-or-not, le-or-lt}
 use Rattle.tables.specs.Slots.{empty, home, next, stops, probe, spot, held, total, items}
 use Rattle.tables.specs.Changes.{place}
-use Rattle.tables.specs.Shapes.{steps, Placed, AllPlaced, EmptyFrom, Lawful, Sound, Member, Stored, RunUp}
-use Rattle.tables.proofs.Laws.{next-wrap, next-inner, stops-same, stops-empty, stops-not, probe-stop, probe-go, items-full, items-empty, home-lt, held-empty, held-full, at-or-below}
+use Rattle.tables.specs.Shapes.{steps, Placed, AllPlaced, Lawful, Sound, Member, Stored, RunUp}
+use Rattle.tables.proofs.Laws.{next-wrap, next-inner, stops-same, stops-empty, stops-not, probe-stop, probe-go, home-lt, held-empty, held-full, at-or-below}
 
 pub steps-add : (n p a b : ℕ) → steps n p (a + b) ≡ steps n (steps n p a) b
 unfolding steps
@@ -328,29 +327,30 @@ stored-new s lg v c x q l xs xe room z qn d = rw z (go (rw z at qn) (at-end s lg
       held-on = λ r. member-place s lg v c x l xs xe h e;
     }
 
+-- a search whose home is in a run of items below x walks the run to its end
+pub run-clear : (s : List ℕ) (n x h p len top d : ℕ) → RunUp s n p len top → h < n → steps n h d ≡ p → d ≤ len → top < x → (k : ℕ) → k < d → stops s x (steps n h k) ≡ false
+run-clear s n x h p len top d u hn there near above k l =
+    rw (along k) (stops-not s x (steps n (u .from) (len - d + k)) (λ g. omega (arith, g, u .under (len - d + k) (omega arith))) (u .full (len - d + k) (omega arith)))
+  where
+    joins : h ≡ steps n (u .from) (len - d)
+    joins =
+        let e : len - d + d ≡ len = omega arith in
+        steps-inj n h (steps n (u .from) (len - d)) d hn (steps-lt n (u .from) (len - d) (u .from-lt))
+        (there ∙ sym (u .meets) ∙ ap (steps n (u .from)) (sym e) ∙ steps-add n (u .from) (len - d) d)
+
+    along : (k : ℕ) → steps n h k ≡ steps n (u .from) (len - d + k)
+    along k = ap (λ z. steps n z k) joins ∙ sym (steps-add n (u .from) (len - d) k)
+
 -- An item above the `run` items before it, whose home is among them or itself, is placed: nothing is searched.
-module _ (s : List ℕ) (lg v p run top d : ℕ) (u : RunUp s (2 ^ lg) p run top) where
-  x : ℕ
-  x = getD s p 0
-
-  pub run-placed : home lg v (getD s p 0) < 2 ^ lg → d < 2 ^ lg → steps (2 ^ lg) (home lg v (getD s p 0)) d ≡ p → getD s p 0 < 2 ^ v → d ≤ run → top < getD s p 0 → Placed s lg v p
-  unfolding x
-  run-placed hn dn there small near above = record {
-    small = small;
-    found = spot-ends s lg v x d dn (record { clear = clear; stop = rw there (stops-same s x p refl) }) ∙ there;
-  }
-    where
-      joins : home lg v x ≡ steps (2 ^ lg) (u .from) (run - d)
-      joins =
-          let e : run - d + d ≡ run = omega arith in
-          steps-inj (2 ^ lg) (home lg v x) (steps (2 ^ lg) (u .from) (run - d)) d hn (steps-lt (2 ^ lg) (u .from) (run - d) (u .from-lt))
-          (there ∙ sym (u .meets) ∙ ap (steps (2 ^ lg) (u .from)) (sym e) ∙ steps-add (2 ^ lg) (u .from) (run - d) d)
-
-      along : (k : ℕ) → steps (2 ^ lg) (home lg v x) k ≡ steps (2 ^ lg) (u .from) (run - d + k)
-      along k = ap (λ z. steps (2 ^ lg) z k) joins ∙ sym (steps-add (2 ^ lg) (u .from) (run - d) k)
-
-      clear : (k : ℕ) → k < d → stops s x (steps (2 ^ lg) (home lg v x) k) ≡ false
-      clear k l = rw (along k) (stops-not s x (steps (2 ^ lg) (u .from) (run - d + k)) (λ g. omega (arith, g, u .under (run - d + k) (omega arith))) (u .full (run - d + k) (omega arith)))
+pub run-placed : (s : List ℕ) (lg v p run top d : ℕ) → RunUp s (2 ^ lg) p run top → home lg v (getD s p 0) < 2 ^ lg → d < 2 ^ lg
+    → steps (2 ^ lg) (home lg v (getD s p 0)) d ≡ p → getD s p 0 < 2 ^ v → d ≤ run → top < getD s p 0 → Placed s lg v p
+run-placed s lg v p run top d u hn dn there small near above = record {
+  small = small;
+  found = spot-ends s lg v (getD s p 0) d dn (record {
+    clear = run-clear s (2 ^ lg) (getD s p 0) (home lg v (getD s p 0)) p run top d u hn there near above;
+    stop = rw there (stops-same s (getD s p 0) p refl);
+  }) ∙ there;
+}
 
 pub run-none : (s : List ℕ) (n p top : ℕ) → p < n → RunUp s n p 0 top
 unfolding steps

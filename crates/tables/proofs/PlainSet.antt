@@ -1,29 +1,27 @@
 -- Over accepted calls a table answers as a plain set. Assumes nothing.
 use mathlib.Core.Path.{_≡_, refl, sym, ap, ap₂, _∙_, subst}
-use mathlib.Core.Bool.{Bool, true, false, not, _&&_, _||_, true≢false, false≢true}
-use mathlib.Core.Logic.{_⊎_, inl, inr, ⊎-elim}
+use mathlib.Core.Bool.{Bool, true, false, not, _&&_, _||_, false≢true}
+use mathlib.Core.Logic.{inl, ⊎-elim}
 use mathlib.Core.List.{List, [], _∷_}
-use Prim.Native.Nat.{ℕ, zero, suc, _+_, _-_, _*_, _^_, _≤_, _<_}
+use Prim.Native.Nat.{ℕ, _+_, _-_, _^_, _≤_}
 use native.Mathlib.Omega.{arith}
 use lib.ListN.{length, getD, getD-replicate}
 use lib.Dec.{eqb}
 use borrow.Author.Tests.{eq-eqb, ne-eqb, eqb-true, eqb-false, not-true}
-use Rattle.laws.specs.Choose.{choose}
 use Rattle.laws.specs.Below.{one as told}
-use Rattle.laws.proofs.Truths.{true-or-false, never-true, same-truth, and-left, and-right, and-both, or-true, or-left, or-right}
+use Rattle.laws.proofs.Truths.{never-true, same-truth, and-left, and-right, and-both, or-true, or-left, or-right}
 use Rattle.laws.proofs.Sums.{sumBelow, sum-same}
-use Rattle.refusals.specs.Outcome.{Outcome, accepted, refused, stopped, ifAccepted}
+use Rattle.refusals.specs.Outcome.{Outcome, accepted, refused, ifAccepted}
 use Rattle.tables.specs.Slots.{empty, holds}
 use Rattle.tables.specs.Changes.{blank, fill, buildLg, inserted, deleted, halvedLg}
-use Rattle.tables.specs.Calls.{recordOf, ifChanged, tableJudged, insertOf, deleteOf, clearOf, blankIf, newOf, buildOf, ifBuilt, buildRegion}
-use Rattle.tables.specs.Runs.{Table, Call, insert, delete, clear, answerOf, valuesIn, recorded, after, judged, isAccepted, saidBy, allAccepted, saidAll, afterAll, setOf, plainSays, plainAfter, plainSaysAll, plainAfterAll}
+use Rattle.tables.specs.Calls.{recordOf, ifChanged, insertOf, deleteOf, clearOf, blankIf, newOf, buildOf, ifBuilt, buildRegion}
+use Rattle.tables.specs.Runs.{Table, Call, insert, delete, clear, answerOf, valuesIn, after, judged, isAccepted, saidBy, allAccepted, saidAll, afterAll, setOf, plainSays, plainAfter, plainSaysAll, plainAfterAll}
 use Rattle.tables.specs.Shapes.{Lawful, Member}
-use Rattle.tables.proofs.Items.{Fine}
 use Rattle.tables.proofs.Bridges.{holds-at, at-holds, holds-member, member-holds}
 use Rattle.tables.proofs.Build.{build-listed, build-stored}
 use Rattle.tables.proofs.Sizes.{build-fits}
 use Rattle.tables.proofs.Changed.{Added, Taken, kept-set, grown-set, deleted-set}
-use Rattle.tables.proofs.Says.{judged-is, InsertSays, refuses, there, kept, grown, insert-says, DeleteSays, missing, taken, delete-says, BuildSays, build-says, NewSays, new-says}
+use Rattle.tables.proofs.Says.{judged-is, InsertSays, refuses, there, kept, grown, insert-says, DeleteSays, missing, taken, delete-says, build-says, new-says}
 use Rattle.tables.proofs.Lasting.{clear-is, lasting, build-base}
 use Rattle.tables.proofs.Number.{set-number}
 

@@ -3,19 +3,19 @@ use mathlib.Core.Path.{_≡_, refl, sym, ap, _∙_, subst}
 use mathlib.Core.Bool.{Bool, true, false, true≢false, false≢true}
 use mathlib.Core.Logic.{_⊎_, inl, inr, ⊎-elim}
 use mathlib.Core.List.{List}
-use Prim.Native.Nat.{ℕ, zero, suc, _+_, _-_, _*_, _^_, _≤_, _<_}
+use Prim.Native.Nat.{ℕ, zero, suc, _+_, _*_, _^_, _≤_, _<_}
 use native.Mathlib.Omega.{arith}
-use native.Mathlib.Nat.{add-zero, zero-add, pow-suc}
+use native.Mathlib.Nat.{pow-suc}
 use lib.Pow.{pow-mono}
 use native.Mathlib.Numerals.{add-one}
-use lib.ListN.{length, getD, set, length-set, replicate, length-replicate, getD-replicate}
+use lib.ListN.{length, getD, set, replicate, length-replicate, getD-replicate}
 use lib.Dec.{eqb}
 use lib.Arith.{le-of-le-suc-ne}
 use borrow.Author.Tests.{eq-eqb, ne-eqb}
 use Rattle.laws.specs.Choose.{choose}
 use Rattle.tables.specs.Slots.{empty, spot, held, total, items}
 use Rattle.tables.specs.Changes.{place, fill, rebuilt}
-use Rattle.tables.specs.Shapes.{AllPlaced, Lawful, Sound, Member, AllSmall, Grown}
+use Rattle.tables.specs.Shapes.{Lawful, Sound, Member, AllSmall, Grown}
 use Rattle.tables.proofs.Laws.{held-empty, held-full, items-full}
 use Rattle.tables.proofs.Paths.{same-or-not, place-lawful, place-sound, place-member, member-place, only-there, at-end, spot-lt, length-place, total-set}
 use Rattle.tables.proofs.Delete.{one, one-same, one-other, tally-at, tally-some, once-placed}

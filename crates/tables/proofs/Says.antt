@@ -1,15 +1,15 @@
 -- What the calls on a lawful table say, case by case. Assumes nothing.
-use mathlib.Core.Path.{_≡_, refl, sym, ap, _∙_, subst}
+use mathlib.Core.Path.{_≡_, refl, sym, _∙_}
 use mathlib.Core.Bool.{Bool, true, false, not, _||_, true≢false}
-use mathlib.Core.Logic.{_⊎_, inl, inr, ⊎-elim}
+use mathlib.Core.Logic.{⊎-elim}
 use mathlib.Core.List.{List, [], _∷_}
-use Prim.Native.Nat.{ℕ, zero, suc, _+_, _-_, _*_, _^_, _≤_, _<_}
+use Prim.Native.Nat.{ℕ, _+_, _-_, _^_, _≤_, _<_}
 use native.Mathlib.Omega.{arith}
 use lib.ListN.{length, getD}
 use lib.Dec.{eqb, leb, ltb}
 use borrow.Author.Tests.{eq-eqb, eqb-true, ltb-false, leb-false, not-false}
 use Rattle.laws.specs.Choose.{choose}
-use Rattle.refusals.specs.Outcome.{Outcome, accepted, refused, stopped, andThen}
+use Rattle.refusals.specs.Outcome.{Outcome, accepted, refused, andThen}
 use Rattle.tables.specs.Slots.{empty, holds, sized, lawful}
 use Rattle.tables.specs.Changes.{fits, halvedLg, buildLg}
 use Rattle.tables.specs.Calls.{unequal, unchanged, changed, recordOf, tableJudged, itemJudged, growthJudged, itemsJudged, twiceJudged, insertOf, deleteOf, buildOf, newOf}

@@ -1,22 +1,20 @@
 -- A delete may move its hole along in place of searching anew for each item up to the next empty slot. Assumes nothing.
 use mathlib.Core.Path.{_≡_, refl, sym, ap, _∙_, subst}
-use mathlib.Core.Bool.{Bool, true, false, true≢false}
+use mathlib.Core.Bool.{true, false, true≢false}
 use mathlib.Core.Logic.{_⊎_, inl, inr, ⊎-elim}
 use mathlib.Core.List.{List}
-use Prim.Native.Nat.{ℕ, zero, suc, _+_, _-_, _*_, _^_, _≤_, _<_}
+use Prim.Native.Nat.{ℕ, zero, suc, _+_, _-_, _^_, _≤_, _<_}
 use native.Mathlib.Omega.{arith}
 use native.Mathlib.Nat.{eq-or-lt-of-le, lt-of-lt-of-le as lt-le}
 use lib.ListN.{length, getD, set, length-set}
 use lib.Seq.{getD-set-same, getD-set-other, set-set, set-getD, set-comm}
-use lib.Dec.{eqb, leb}
 use borrow.Author.Tests.{eq-eqb, ne-eqb, le-leb, lt-leb}
-use Rattle.laws.specs.Choose.{choose}
 use Rattle.tables.specs.Slots.{empty, home, next, stops, spot}
 use Rattle.tables.specs.Changes.{place, reseat, remove}
 use Rattle.tables.specs.Shapes.{steps, apart, shifted, Lawful, Removed}
 use Rattle.tables.proofs.Laws.{stops-empty, stops-not}
-use Rattle.tables.proofs.Paths.{same-or-not, le-or-lt, steps-add, steps-ahead, steps-behind, steps-lt, steps-inj, Ends, Path-to, spot-ends}
-use Rattle.tables.proofs.Delete.{steps-apart, step-on, step-on′, own-path, reseat-done, reseat-go, Mid, start, again, was, full-y, gone, home-y, room, bL, Cluster, cluster, removed-some}
+use Rattle.tables.proofs.Paths.{same-or-not, le-or-lt, steps-add, steps-ahead, steps-behind, steps-lt, steps-inj, Path-to, spot-ends}
+use Rattle.tables.proofs.Delete.{steps-apart, step-on, step-on′, own-path, reseat-done, reseat-go, Mid, start, again, was, full-y, gone, home-y, room, bL, cluster, removed-some}
 
 pub apart-ahead : (n a b : ℕ) → a ≤ b → apart n a b ≡ b - a
 unfolding apart

@@ -1,10 +1,10 @@
 -- The walk by the stride of its lg: step by step as code takes it, and what it lists. Assumes nothing.
-use mathlib.Core.Path.{_≡_, refl, sym, ap, _∙_, subst}
+use mathlib.Core.Path.{_≡_, refl, sym, ap, _∙_}
 use mathlib.Core.Bool.{Bool, true, false, not, _&&_}
 use mathlib.Core.List.{List, [], _∷_, _++_}
 use Prim.Native.Nat.{ℕ, zero, suc, _+_, _-_, _*_, _%_, _^_, _≤_, _<_}
 use native.Mathlib.Omega.{arith}
-use native.Mathlib.Nat.{mod-lt, mod-eq-of-lt, add-mul-mod-self-right, one-mul}
+use native.Mathlib.Nat.{mod-lt, mod-eq-of-lt, add-mul-mod-self-right}
 use native.Mathlib.Numerals.{add-one}
 use lib.Pow.{pow-pos, pow-mono}
 use lib.ListN.{length, getD, set, take, drop, length-set, length-append, take-append-drop}
@@ -15,13 +15,12 @@ use Rattle.laws.specs.Choose.{choose}
 use Rattle.laws.specs.Below.{one as told}
 use Rattle.laws.specs.Lists.{listOf}
 use Rattle.laws.proofs.Lists.{listOf-snoc}
-use Rattle.laws.proofs.Sums.{sumBelow}
 use Rattle.laws.proofs.Bijections.{sum-order}
 use Rattle.tables.specs.Slots.{empty, holds}
 use Rattle.tables.specs.Listings.{keep, isItem, strideAt, walkedSlots, walkOrder}
 use Rattle.tables.specs.Shapes.{snoc, Lawful, metBy, Walking}
 use Rattle.tables.proofs.Walk.{met, met-once, stride-step}
-use Rattle.tables.proofs.Kept.{sumOf, timesIn, sum-append, sum-keep, sum-length, sum-take, sum-listOf, keep-append, keep-snoc, kept-items}
+use Rattle.tables.proofs.Kept.{sumOf, timesIn, sum-keep, sum-length, sum-take, sum-listOf, keep-snoc, kept-items}
 use Rattle.tables.proofs.Stride.{Stride, stride-is}
 use Rattle.tables.proofs.Once.{kept-once}
 

@@ -7,7 +7,7 @@ use mathlib.Core.List.{List, [], _∷_, _++_}
 use lib.ListN.{length, getD, set, take, drop}
 use lib.Dec.{eqb, leb}
 use Rattle.laws.specs.Choose.{choose}
-use Rattle.tables.specs.Slots.{empty, home, next, probe, spot, total, held, items}
+use Rattle.tables.specs.Slots.{empty, home, next, spot, items}
 use Rattle.tables.specs.Changes.{place, remove, fill, rebuilt}
 use Rattle.laws.specs.Lists.{listOf}
 use Rattle.tables.specs.Listings.{keep, isItem, high, strideAt}
