@@ -24,6 +24,7 @@ lows-is s v (suc k) h =
     ∙ keep-snoc (λ x. not (high v x)) (take k s) (getD s k 0)
     ∙ ap (λ (l : List ℕ). snoc (not (high v (getD s k 0))) l (getD s k 0)) (lows-is s v k (omega arith))
 
+-- those with the bit set, the last first
 pub highs-is : (s : List ℕ) (v k : ℕ) → k ≤ length s → backwards (keep (high v) (take k s)) ≡ highs s v k
 unfolding keep backwards highs
 highs-is s v zero h = refl

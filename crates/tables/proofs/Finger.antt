@@ -78,12 +78,14 @@ run-path s lg v x q d w hn dn there ql e under xe = record {
     same : (k : ℕ) → k < d → getD (set s q x) (steps (2 ^ lg) (home lg v x) k) 0 ≡ getD s (steps (2 ^ lg) (home lg v x) k) 0
     same k h = getD-set-other s q (steps (2 ^ lg) (home lg v x) k) x 0 (λ g. full k h (rw g e))
 
+-- a store of an item that is not above top leaves none above it
 pub under-set : (s : List ℕ) (n q x top : ℕ) → q < length s → AllUnder s n top → x ≤ top → AllUnder (set s q x) n top
 under-set s n q x top l f h j jn full = ⊎-elim
     (λ (e : j ≡ q). rw (e, getD-set-same s q x 0 l) h)
     (λ d. rw (getD-set-other s q j x 0 d) (f j jn (λ z. full (getD-set-other s q j x 0 d ∙ z))))
     (same-or-not j q)
 
+-- what is not above a is not above b
 pub under-more : (s : List ℕ) (n a b : ℕ) → AllUnder s n a → a ≤ b → AllUnder s n b
 under-more s n a b f h j jn full = le-trans (f j jn full) h
 
@@ -119,6 +121,7 @@ module _ (o t s : List ℕ) (lg v p len top i q : ℕ) (b : Before o t s lg v p 
   fresh-more : (k : ℕ) → k < i + 1 → Member (fill o k t lg v) (2 ^ lg) (getD o k 0) → ⊥
   fresh-more k h m = ⊎-elim (λ (e : k ≡ i). went .new refl (rw (b .now-is) (rw e at m))) (λ z. b .fresh k z m) (at-or-below h)
 
+  -- an item that is not above all others: the finger stays
   pub stay : x ≤ top → Before o t (set s q x) lg v p len top (i + 1)
   stay h = record {
     within = omega arith;
@@ -131,6 +134,7 @@ module _ (o t s : List ℕ) (lg v p len top i q : ℕ) (b : Before o t s lg v p 
     fresh = fresh-more;
   }
 
+  -- one that is: the finger moves behind it
   pub move : (d : ℕ) → top < x → home lg v x < 2 ^ lg → d < 2 ^ lg → steps (2 ^ lg) (home lg v x) d ≡ q → Before o t (set s q x) lg v (next (2 ^ lg) q) (d + 1) x (i + 1)
   move d h hn dn there = record {
     within = omega arith;
@@ -143,6 +147,7 @@ module _ (o t s : List ℕ) (lg v p len top i q : ℕ) (b : Before o t s lg v p 
     fresh = fresh-more;
   }
 
+-- before the first item
 pub first : (o t : List ℕ) (lg v : ℕ) → Lawful t lg v 0 → Before o t t lg v 0 0 0 0
 unfolding fill
 first o t lg v l = record {
@@ -156,8 +161,10 @@ first o t lg v l = record {
   fresh = λ k h. absurd (omega arith);
 }
 
+-- after the last item all are built
 pub last : (o t s : List ℕ) (lg v p len top i : ℕ) → Before o t s lg v p len top i → length o ≤ i → Built o t s lg v i
 last o t s lg v p len top i b h = record { within = b .within; now-is = b .now-is; lawful = b .lawful; fresh = b .fresh; stopped = λ l. absurd (omega arith) }
 
+-- an item that is there already ends the build
 pub twice : (o t s : List ℕ) (lg v p len top i q : ℕ) → Before o t s lg v p len top i → q < 2 ^ lg → getD s q 0 ≡ getD o i 0 → (getD o i 0 ≡ empty → ⊥) → Built o t s lg v i
 twice o t s lg v p len top i q b qn e full = record { within = b .within; now-is = b .now-is; lawful = b .lawful; fresh = b .fresh; stopped = λ l. (q, qn, e, full) }

@@ -24,16 +24,19 @@ sumOf f (x ∷ more) = f x + sumOf f more
 abbrev pub timesIn : ℕ → List ℕ → ℕ
 timesIn y l = sumOf (λ x. choose (eqb x y) 1 0) l
 
+-- of two lists one after the other
 pub sum-append : (f : ℕ → ℕ) (a b : List ℕ) → sumOf f (a ++ b) ≡ sumOf f a + sumOf f b
 unfolding sumOf
 sum-append f [] b = sym (zero-add (sumOf f b))
 sum-append f (x ∷ a) b = omega (arith, sum-append f a b)
 
+-- of a list backwards
 pub sum-backwards : (f : ℕ → ℕ) (a : List ℕ) → sumOf f (backwards a) ≡ sumOf f a
 unfolding sumOf backwards
 sum-backwards f [] = refl
 sum-backwards f (x ∷ a) = sum-append f (backwards a) (x ∷ []) ∙ omega (arith, sum-backwards f a)
 
+-- of what is kept of a list
 pub sum-keep : (f : ℕ → ℕ) (test : ℕ → Bool) (a : List ℕ) → sumOf f (keep test a) ≡ sumOf (λ x. choose (test x) (f x) 0) a
 unfolding sumOf keep
 sum-keep f test [] = refl
@@ -43,6 +46,7 @@ sum-keep f test (x ∷ a) = go (test x) (sum-keep f test a)
     go true e = ap (λ (n : ℕ). f x + n) e
     go false e = e ∙ sym (zero-add (sumOf (λ x. choose (test x) (f x) 0) a))
 
+-- ones make the length
 pub sum-length : (a : List ℕ) → sumOf (λ x. 1) a ≡ length a
 unfolding sumOf
 sum-length [] = refl
@@ -59,11 +63,13 @@ unfolding sumBelow
 sum-first zero f = omega arith
 sum-first (suc n) f = omega (arith, sum-first n f)
 
+-- of a list that is given by a function
 pub sum-listOf : (f h : ℕ → ℕ) (n : ℕ) → sumOf f (listOf n h) ≡ sumBelow n (λ i. f (h i))
 unfolding sumOf listOf sumBelow
 sum-listOf f h zero = refl
 sum-listOf f h (suc n) = omega (arith, sum-listOf f (λ i. h (suc i)) n, sum-first n (λ i. f (h i)))
 
+-- a total over slots is such a sum
 pub total-sum : (f : ℕ → ℕ) (s : List ℕ) (n : ℕ) → total f s n ≡ sumBelow n (λ p. f (getD s p 0))
 unfolding total sumBelow
 total-sum f s zero = refl
@@ -89,6 +95,7 @@ keep-append test (x ∷ a) b = go (test x) (keep-append test a b)
     go true e = ap (λ (l : List ℕ). x ∷ l) e
     go false e = e
 
+-- with one item more
 pub keep-snoc : (test : ℕ → Bool) (a : List ℕ) (x : ℕ) → keep test (a ++ (x ∷ [])) ≡ snoc (test x) (keep test a) x
 unfolding keep
 keep-snoc test a x = keep-append test a (x ∷ []) ∙ go (test x)
@@ -97,6 +104,7 @@ keep-snoc test a x = keep-append test a (x ∷ []) ∙ go (test x)
     go true = refl
     go false = append-nil (keep test a)
 
+-- backwards it comes first
 pub backwards-snoc : (a : List ℕ) (x : ℕ) → backwards (a ++ (x ∷ [])) ≡ x ∷ backwards a
 unfolding backwards
 backwards-snoc [] x = refl

@@ -84,6 +84,7 @@ new-lasts s e lg v a b d z =
 pub build-base : (s e : List ℕ) (v : ℕ) (list : List ℕ) → BuildSays s e v list → Lawful (blank s) (buildLg (length list)) v 0
 build-base s e v list w = blank-lawful (length s) (buildLg (length list)) v (build-least (length list)) (w .most) (w .below) (w .bits-most) (w .room)
 
+-- A build that is accepted: its record, with what it leaves.
 pub build-lasts : (s e : List ℕ) (v : ℕ) (list : List ℕ) (a b d : ℕ) → buildOf s e v list ≡ recordOf a b d → tableJudged (buildRegion s e v list) (buildSpare s e v list) a b d ≡ accepted []
 build-lasts s e v list a b d z =
     let w = build-says s e v list z in

@@ -22,10 +22,12 @@ use Rattle.tables.proofs.Bridges.{holds-at, not-holds}
 pub hit : ℕ → ℕ → ℕ
 hit y a = choose (eqb y empty) 0 (one y a)
 
+-- the empty slot's number is no item
 pub hit-never : (y a : ℕ) → y ≡ empty → hit y a ≡ 0
 unfolding hit
 hit-never y a e = simp (eq-eqb y empty e)
 
+-- any other counts where it stands
 pub hit-one : (y a : ℕ) → (y ≡ empty → ⊥) → hit y a ≡ one y a
 unfolding hit
 hit-one y a d = simp (ne-eqb y empty d)

@@ -38,6 +38,7 @@ counts a y = ⊎-elim
     away d (inl z) = rw (ne-eqb a empty (λ w. d (sym z ∙ w)), eq-eqb a y z) (sym (one-same y a z))
     away d (inr z) = rw (ne-eqb a y z) (none (isItem a) ∙ sym (one-other y a z))
 
+-- y is listed once if the table holds it, and otherwise never
 pub kept-once : (s : List ℕ) (lg v c : ℕ) → Lawful s lg v c → (y : ℕ) → timesIn y (keep isItem (take (2 ^ lg) s)) ≡ told (not (eqb y empty) && holds s (2 ^ lg) y)
 kept-once s lg v c l y =
     sum-keep (λ x. choose (eqb x y) 1 0) isItem (take (2 ^ lg) s)

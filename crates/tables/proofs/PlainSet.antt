@@ -84,6 +84,7 @@ pub record Plainly (t : Table) (call : Call) : Type 0 where
   pub answer : saidBy call (answerOf t call) ≡ plainSays (setOf t) call
   pub holding : (y : ℕ) → setOf (after t call) y ≡ plainAfter (setOf t) call y
 
+-- it says what the plain set says, and leaves what the plain set is
 pub plainly : (t : Table) (call : Call) → judged t ≡ accepted [] → isAccepted (answerOf t call) ≡ true → Plainly t call
 plainly t (insert x) z a =
     let w = judged-is (t .slots) (t .spare) (t .lg) (t .bits) (t .count) z in
@@ -114,6 +115,7 @@ delete-bits s lg v c x (refused number place) refuses = refl
 delete-bits s lg v c x (accepted _) (missing w m) = refl
 delete-bits s lg v c x (accepted _) (taken w m) = refl
 
+-- whatever is called
 pub bits-stay : (t : Table) (call : Call) → judged t ≡ accepted [] → after t call .bits ≡ t .bits
 bits-stay t (insert x) z =
     let w = judged-is (t .slots) (t .spare) (t .lg) (t .bits) (t .count) z in
@@ -164,6 +166,7 @@ pub record AsPlainSet (t : Table) (calls : List Call) : Type 0 where
   pub number : afterAll t calls .count ≡ sumBelow (2 ^ t .bits) (λ y. told (plainAfterAll (setOf t) calls y))
   pub lasts : judged (afterAll t calls) ≡ accepted []
 
+-- that is so, by induction on the calls
 pub as-plain-set : (t : Table) (calls : List Call) → judged t ≡ accepted [] → allAccepted t calls ≡ true → AsPlainSet t calls
 as-plain-set t calls z a =
     let r : Run t (setOf t) calls = run calls t (setOf t) z (λ y. refl) a in

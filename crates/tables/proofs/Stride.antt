@@ -27,12 +27,14 @@ all-right : everyBelow 27 rightAt ≡ true
 unfolding everyBelow rightAt strideAt inverses
 all-right = refl
 
+-- what the test says of one lg
 pub record Stride (lg : ℕ) : Type 0 where
   pub odd : strideAt lg % 2 ≡ 1
   pub below : strideAt lg < 2 ^ lg
   pub back : ℕ
   pub inverse : strideAt lg * back % 2 ^ lg ≡ 1
 
+-- read off the test
 pub stride-is : (lg : ℕ) → 2 ≤ lg → lg ≤ 26 → Stride lg
 unfolding rightAt
 stride-is lg least most = ⊎-elim

@@ -59,16 +59,20 @@ met-more s lg i =
     ∙ ap (keep isItem) (listOf-snoc i (λ j. getD s (j * strideAt lg % 2 ^ lg) 0))
     ∙ keep-snoc isItem (listOf i (λ j. getD s (j * strideAt lg % 2 ^ lg) 0)) (getD s (i * strideAt lg % 2 ^ lg) 0)
 
+-- it is empty: nothing more is met
 pub met-empty : (s : List ℕ) (lg i k : ℕ) → k ≡ i * strideAt lg % 2 ^ lg → getD s k 0 ≡ empty → metBy s lg (i + 1) ≡ metBy s lg i
 met-empty s lg i k z e = met-more s lg i ∙ rw (eq-eqb (getD s (i * strideAt lg % 2 ^ lg) 0) empty (rw z at e))
 
+-- it holds an item: that is met
 pub met-item : (s : List ℕ) (lg i k : ℕ) → k ≡ i * strideAt lg % 2 ^ lg → (getD s k 0 ≡ empty → ⊥) → metBy s lg (i + 1) ≡ metBy s lg i ++ (getD s k 0 ∷ [])
 met-item s lg i k z d = met-more s lg i ∙ rw (z, ne-eqb (getD s (i * strideAt lg % 2 ^ lg) 0) empty (rw z at d))
 
+-- at the start nothing is met
 pub met-none : (s : List ℕ) (lg : ℕ) → metBy s lg 0 ≡ []
 unfolding metBy listOf keep
 met-none s lg = refl
 
+-- at the end all is
 pub met-all : (s : List ℕ) (lg : ℕ) → metBy s lg (2 ^ lg) ≡ walkOrder s lg
 unfolding metBy walkOrder walkedSlots
 met-all s lg = refl
@@ -77,6 +81,7 @@ met-all s lg = refl
 pub stride-near : (n g i k : ℕ) → k ≡ i * g % n → k + g < n → k + g ≡ (i + 1) * g % n
 stride-near n g i k z h = sym (mod-eq-of-lt h) ∙ rw z (stride-step n g i)
 
+-- it passes the end
 pub stride-over : (n g i k : ℕ) → k ≡ i * g % n → k < n → g < n → n ≤ k + g → k + g - n ≡ (i + 1) * g % n
 stride-over n g i k z kn gn h =
     let e : k + g - n + 1 * n ≡ k + g = omega arith in
@@ -111,11 +116,13 @@ walking-start s o lg =
     let z : 0 * strideAt lg ≡ 0 = omega arith in
     record { slot = sym (ap (λ (m : ℕ). m % 2 ^ lg) z ∙ mod-eq-of-lt (pow-pos lg)); long = refl; fore = sym (met-none s lg); aft = refl; count = sym (ap length (met-none s lg)) }
 
+-- an empty slot
 pub walking-skip : (s o u : List ℕ) (lg i k r next : ℕ) → Walking s o u lg i k r → getD s k 0 ≡ empty → next ≡ (i + 1) * strideAt lg % 2 ^ lg → Walking s o u lg (i + 1) next r
 walking-skip s o u lg i k r next w e z =
     let m = met-empty s lg i k (w .slot) e in
     record { slot = z; long = w .long; fore = w .fore ∙ sym m; aft = w .aft; count = w .count ∙ ap length (sym m) }
 
+-- a slot that holds an item
 pub walking-write : (s o u : List ℕ) (lg i k r next : ℕ) → Walking s o u lg i k r → (getD s k 0 ≡ empty → ⊥) → r < length o → next ≡ (i + 1) * strideAt lg % 2 ^ lg
     → Walking s o (set u r (getD s k 0)) lg (i + 1) next (r + 1)
 walking-write s o u lg i k r next w d h z =
@@ -128,6 +135,7 @@ walking-write s o u lg i k r next w d h z =
       count = ap (λ (j : ℕ). j + 1) (w .count) ∙ sym (length-append (metBy s lg i) (getD s k 0 ∷ [])) ∙ ap length (sym m);
     }
 
+-- the end: the walk's items are written, and the rest is as it was
 pub walking-end : (s o u : List ℕ) (lg v c k r : ℕ) → Lawful s lg v c → Walking s o u lg (2 ^ lg) k r → (r ≡ c) × (u ≡ walkOrder s lg ++ drop c o)
 walking-end s o u lg v c k r l w =
     let e : r ≡ c = w .count ∙ ap length (met-all s lg) ∙ walk-length s lg v c l in
