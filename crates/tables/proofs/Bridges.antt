@@ -140,6 +140,10 @@ beyond-by s n r d = decided r (emptyBeyond s n) d (beyond-is s n) (is-beyond s n
 pub placed-by : (s : List ℕ) (lg v n : ℕ) (r : Bool) → Decides (AllPlaced s lg v n) r → r ≡ everyBelow n (placedAt s lg v)
 placed-by s lg v n r d = decided r (everyBelow n (placedAt s lg v)) d (all-placed s lg v n) (placed-all s lg v n)
 
+-- for one slot
+pub slot-by : (s : List ℕ) (lg v p : ℕ) (r : Bool) → Decides ((getD s p 0 ≡ empty → ⊥) → Placed s lg v p) r → r ≡ placedAt s lg v p
+slot-by s lg v p r d = decided r (placedAt s lg v p) d (placed-is s lg v p) (is-placed s lg v p)
+
 -- and for the sizes
 pub sized-by : (lg v : ℕ) (r : Bool) → Decides (Sized lg v) r → r ≡ sized lg v
 sized-by lg v r d = decided r (sized lg v) d (sized-is lg v) (is-sized lg v)
