@@ -24,16 +24,23 @@ use Rattle.tables.proofs.Kept.{sumOf, timesIn, sum-keep, sum-length, su
 use Rattle.tables.proofs.Stride.{Stride, stride-is}
 use Rattle.tables.proofs.Once.{kept-once}
 
--- Any f, summed over the slots in the order of the walk or in slot order, gives the same: the walk meets each slot once.
+two : (lg : ℕ) → 2 ≤ lg → 1 < 2 ^ lg
+two lg least = let big : 4 ≤ 2 ^ lg = pow-mono {i = 2} {j = lg} least in omega arith
+
+-- One walk meets each slot once: at some step, and at no other.
+pub walk-meets : (lg p : ℕ) → 2 ≤ lg → lg ≤ 26 → p < 2 ^ lg → (k : ℕ) × (k < 2 ^ lg) × (k * strideAt lg % 2 ^ lg ≡ p)
+walk-meets lg p least most h = let w : Stride lg = stride-is lg least most in met (2 ^ lg) (strideAt lg) (w .back) p (two lg least) (w .inverse) h
+
+pub walk-meets-once : (lg a b : ℕ) → 2 ≤ lg → lg ≤ 26 → a < 2 ^ lg → b < 2 ^ lg → a * strideAt lg % 2 ^ lg ≡ b * strideAt lg % 2 ^ lg → a ≡ b
+walk-meets-once lg a b least most la lb e = let w : Stride lg = stride-is lg least most in met-once (2 ^ lg) (strideAt lg) (w .back) a b (two lg least) (w .inverse) la lb e
+
+-- So any f, summed over the slots in the order of the walk or in slot order, gives the same.
 pub walked-sum : (f : ℕ → ℕ) (s : List ℕ) (lg : ℕ) → 2 ≤ lg → lg ≤ 26 → 2 ^ lg ≤ length s → sumOf f (walkedSlots s lg) ≡ sumOf f (take (2 ^ lg) s)
 unfolding walkedSlots
 walked-sum f s lg least most room =
-    let w : Stride lg = stride-is lg least most in
-    let big : 4 ≤ 2 ^ lg = pow-mono {i = 2} {j = lg} least in
-    let two : 1 < 2 ^ lg = omega arith in
     sum-listOf f (λ i. getD s (i * strideAt lg % 2 ^ lg) 0) (2 ^ lg)
-    ∙ sum-order (2 ^ lg) (λ p. f (getD s p 0)) (λ i. i * strideAt lg % 2 ^ lg) (λ i l. mod-lt (i * strideAt lg) (pow-pos lg))
-    (λ p l. met (2 ^ lg) (strideAt lg) (w .back) p two (w .inverse) l) (λ a b la lb e. met-once (2 ^ lg) (strideAt lg) (w .back) a b two (w .inverse) la lb e)
+    ∙ sum-order (2 ^ lg) (λ p. f (getD s p 0)) (λ i. i * strideAt lg % 2 ^ lg) (λ i l. mod-lt (i * strideAt lg) (pow-pos lg)) (λ p l. walk-meets lg p least most l)
+    (λ a b la lb e. walk-meets-once lg a b least most la lb e)
     ∙ sym (sum-take f s (2 ^ lg) room)
 
 -- and so over the items
