@@ -9,3 +9,7 @@ pub mod Columns
 pub mod Exponents
 pub mod Quotients
 pub mod Powers
+pub mod Words
+pub mod Any
+pub mod Ones
+pub mod Trailing

@@ -1,5 +1,5 @@
 -- Truth values. Assumes nothing.
-use mathlib.Core.Path.{_≡_, refl, ap, ap₂}
+use mathlib.Core.Path.{_≡_, refl, sym, ap, ap₂}
 use mathlib.Core.Logic.{_⊎_, inl, inr}
 use mathlib.Core.Bool.{Bool, true, false, _&&_, _||_, false≢true}
 
@@ -36,3 +36,10 @@ or-left a b e = ap (λ (t : Bool). t || b) e
 pub or-right : (a b : Bool) → b ≡ true → (a || b) ≡ true
 or-right true b e = refl
 or-right false b e = e
+
+-- two truth values are equal if each is true where the other is
+pub both-true : (a b : Bool) → (a ≡ true → b ≡ true) → (b ≡ true → a ≡ true) → a ≡ b
+both-true true true f g = refl
+both-true true false f g = sym (f refl)
+both-true false true f g = g refl
+both-true false false f g = refl

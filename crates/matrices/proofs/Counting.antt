@@ -1,0 +1,27 @@
+-- The loop that counts. Assumes nothing.
+use mathlib.Core.Path.{_≡_, refl, sym, ap, _∙_}
+use mathlib.Core.List.{List}
+use Prim.Native.Nat.{ℕ, _+_, _^_, _<_}
+use native.Mathlib.Numerals.{add-one}
+use lib.ListN.{length, getD}
+use lib.Count.{ones}
+use Rattle.laws.specs.Below.{countBelow, sumBelow}
+use Rattle.laws.proofs.Ones.{ones-count}
+use Rattle.matrices.specs.Matrix.{at, coupons}
+
+-- the pairs in the first i rows
+abbrev pub counted : List ℕ → ℕ → ℕ
+counted m i = sumBelow i (λ r. countBelow 64 (at m r))
+
+pub counted-none : (m : List ℕ) → counted m 0 ≡ 0
+unfolding sumBelow
+counted-none m = refl
+
+pub counted-more : (m : List ℕ) (i : ℕ) → getD m i 0 < 2 ^ 64 → counted m (i + 1) ≡ counted m i + ones (getD m i 0)
+unfolding sumBelow
+counted-more m i h =
+    ap (λ (n : ℕ). counted m n) (add-one i) ∙ ap (λ (x : ℕ). counted m i + x) (sym (ones-count 64 (getD m i 0) h))
+
+pub counted-all : (m : List ℕ) → counted m (length m) ≡ coupons m
+unfolding coupons
+counted-all m = refl

@@ -1,0 +1,6 @@
+pub mod Matrix
+pub mod Listing
+pub mod Parts
+pub mod Source
+pub mod Calls
+pub mod Shapes
