@@ -16,4 +16,6 @@ pub mod FirstColumn
 pub mod Members
 pub mod Inverse
 pub mod Bridges
+pub mod Judged
+pub mod CouponsHeld
 pub mod Fits
