@@ -18,4 +18,6 @@ pub mod Inverse
 pub mod Bridges
 pub mod Judged
 pub mod CouponsHeld
+pub mod LateReserved
+pub mod Places
 pub mod Fits
