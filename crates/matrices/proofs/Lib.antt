@@ -20,4 +20,8 @@ pub mod Judged
 pub mod CouponsHeld
 pub mod LateReserved
 pub mod Places
+pub mod Accepting
+pub mod Expanding
+pub mod Lawful
+pub mod MergeWhole
 pub mod Fits
