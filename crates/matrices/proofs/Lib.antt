@@ -24,4 +24,5 @@ pub mod Accepting
 pub mod Expanding
 pub mod Lawful
 pub mod MergeWhole
+pub mod SplitLists
 pub mod Fits
