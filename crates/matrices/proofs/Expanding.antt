@@ -1,8 +1,8 @@
 -- The loop that writes a matrix row by row: an expansion, or a new union's zeros. Assumes nothing.
-use mathlib.Core.Path.{_≡_, refl, sym, ap, _∙_}
+use mathlib.Core.Path.{_≡_, sym, ap, _∙_}
 use mathlib.Core.Bool.{Bool, true, false}
 use mathlib.Core.List.{List}
-use Prim.Native.Nat.{ℕ, _+_, _*_, _^_, _<_}
+use Prim.Native.Nat.{ℕ, _+_, _*_, _<_}
 use native.Mathlib.Omega.{arith}
 use lib.ListN.{length, getD, set, replicate, length-replicate, getD-replicate}
 use Rattle.laws.specs.Columns.{wordOf}
@@ -10,7 +10,7 @@ use Rattle.numbers.specs.Numbers.{offsetAt}
 use Rattle.matrices.specs.Listing.{inList}
 use Rattle.matrices.specs.Matrix.{matrixOf}
 use Rattle.matrices.specs.Shapes.{joinedAt}
-use Rattle.matrices.specs.Source.{expanded, hasWindow, held}
+use Rattle.matrices.specs.Source.{hasWindow, held}
 use Rattle.matrices.proofs.Accepting.{held-wide, held-listed}
 use Rattle.matrices.proofs.Inverse.{expanded-row}
 use Rattle.matrices.proofs.Rewriting.{rewritten, rewritten-turn, rewritten-end}

@@ -25,4 +25,6 @@ pub mod Expanding
 pub mod Lawful
 pub mod MergeWhole
 pub mod SplitLists
+pub mod Answered
+pub mod Undone
 pub mod Fits

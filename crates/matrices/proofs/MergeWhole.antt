@@ -4,24 +4,24 @@ use mathlib.Core.Logic.{⊎-elim}
 use mathlib.Core.Bool.{Bool, true, false, _&&_, _||_, true≢false}
 use mathlib.Core.List.{List}
 use Prim.Native.Nat.{ℕ, _+_, _-_, _*_, _/_, _%_, _^_, _≤_, _<_}
-use native.Mathlib.Nat.{mod-lt, mod-eq-of-lt}
+use native.Mathlib.Nat.{mod-eq-of-lt}
 use native.Mathlib.Omega.{arith}
-use borrow.Author.Tests.{lt-ltb, le-ltb, eq-eqb, ne-eqb, eqb-true, ltb-true}
-use lib.Dec.{eqb, ltb}
+use borrow.Author.Tests.{lt-ltb, le-ltb, eq-eqb, ne-eqb, eqb-true}
+use lib.Dec.{eqb}
 use lib.ListN.{length, getD, set, replicate, getD-replicate, List·getD-eq-default}
 use Rattle.laws.specs.Below.{anyBelow}
 use Rattle.laws.specs.Columns.{has, wordOf}
-use Rattle.laws.proofs.Any.{any-find, any-of, any-none, any-one, any-same, any-more, any-extend}
+use Rattle.laws.proofs.Any.{any-find, any-of, any-one, any-same, any-more, any-extend}
 use Rattle.laws.proofs.Columns.{has-zero}
 use Rattle.laws.proofs.Orders.{lt-or-le, same-or-not}
-use Rattle.laws.proofs.Truths.{and-left, and-right, and-false, or-false, or-true, or-left, or-right, or-assoc, both-true, never-true}
+use Rattle.laws.proofs.Truths.{and-left, and-right, and-false, or-false, or-assoc, both-true}
 use Rattle.laws.proofs.Words.{wordOf-same}
 use Rattle.matrices.specs.Calls.{downTo, mergedAt}
 use Rattle.matrices.specs.Listing.{inList}
 use Rattle.matrices.specs.Matrix.{at, matrixOf}
 use Rattle.matrices.specs.Shapes.{folded, merged}
 use Rattle.matrices.proofs.Folding.{partly, partly-low, partly-past, partly-rest}
-use Rattle.matrices.proofs.Rows.{at-matrix, length-matrix, matrix-is, matrix-same, set-matrix, put, put-same, put-other}
+use Rattle.matrices.proofs.Rows.{at-matrix, matrix-is, matrix-same, set-matrix, put, put-same, put-other}
 use Rattle.matrices.proofs.Union.{down-find, down-of}
 
 -- ---- the fold

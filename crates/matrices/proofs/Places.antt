@@ -1,10 +1,10 @@
 -- Refusal 14: the pass over the window, and the pass over the pairs; what it means that they find nothing. Assumes nothing.
-use mathlib.Core.Path.{_≡_, refl, sym, ap, ap₂, _∙_, subst}
+use mathlib.Core.Path.{_≡_, refl, sym, ap, ap₂, _∙_}
 use mathlib.Core.Logic.{⊎-elim}
 use mathlib.Core.Bool.{Bool, true, false, not, _&&_, true≢false}
 use mathlib.Core.List.{List, [], _∷_}
 use Prim.Native.Nat.{ℕ, zero, suc, _+_, _-_, _*_, _/_, _%_, _^_, _≤_, _<_}
-use native.Mathlib.Nat.{not-suc-le-zero, le-of-suc-le-suc, div-eq-of-lt, zero-lt-suc}
+use native.Mathlib.Nat.{not-suc-le-zero, le-of-suc-le-suc, zero-lt-suc}
 use native.Mathlib.Numerals.{add-one}
 use native.Mathlib.Omega.{arith}
 use borrow.Author.Tests.{eq-eqb, ne-eqb, eqb-false, le-leb, lt-leb, leb-true, not-true}
@@ -13,12 +13,11 @@ use lib.Dec.{eqb, leb}
 use lib.ListN.{length, getD, drop, drop-of-length-le, List·getD-eq-default}
 use lib.Pow.{shr-le}
 use lib.Seq.{drop-cons}
-use Rattle.laws.specs.Below.{anyBelow}
 use Rattle.laws.specs.Choose.{choose}
 use Rattle.laws.specs.Columns.{has}
 use Rattle.laws.proofs.Any.{any-find, any-of, any-none}
 use Rattle.laws.proofs.Columns.{has-out, has-shr, has-zero}
-use Rattle.laws.proofs.Orders.{lt-or-le, same-or-not}
+use Rattle.laws.proofs.Orders.{lt-or-le}
 use Rattle.laws.proofs.Trailing.{trailing-at, trailing-lt}
 use Rattle.laws.proofs.Truths.{both-true, never-true, and-left, and-right, and-false}
 use Rattle.refusals.specs.Outcome.{Outcome, accepted, refused}

@@ -3,16 +3,16 @@ use mathlib.Core.Path.{_≡_, refl, sym, ap, ap₂, _∙_, subst}
 use mathlib.Core.Logic.{⊎-elim}
 use mathlib.Core.Bool.{Bool, true, false, not, _&&_, true≢false}
 use mathlib.Core.List.{List, [], _∷_, _++_}
-use Prim.Native.Nat.{ℕ, zero, suc, _+_, _-_, _*_, _/_, _%_, _^_, _≤_, _<_}
+use Prim.Native.Nat.{ℕ, zero, suc, _+_, _*_, _/_, _%_, _^_, _≤_, _<_}
 use native.Mathlib.Nat.{zero-add, not-suc-le-zero}
 use native.Mathlib.Omega.{arith}
 use borrow.Author.Tests.{lt-ltb, le-ltb, ne-eqb, eq-eqb}
-use lib.Dec.{eqb, ltb}
+use lib.Dec.{ltb}
 use lib.ListN.{length, getD, length-append, List·getD-append}
 use lib.Pow.{pow-mono}
 use lib.Seq.{getD-append-add}
 use Rattle.laws.specs.Columns.{has, differs}
-use Rattle.laws.proofs.Orders.{lt-or-le, same-or-not}
+use Rattle.laws.proofs.Orders.{lt-or-le}
 use Rattle.laws.proofs.Words.{has-wordOf}
 use Rattle.refusals.specs.Outcome.{accepted}
 use Rattle.pair_lists.specs.Lists.{judgedFrom, pairsJudged}
