@@ -1,5 +1,5 @@
--- What an accepted split, and an accepted expansion, found. Assumes nothing.
-use mathlib.Core.Path.{_≡_, refl, ap, ap₂, _∙_}
+-- What an accepted split, expansion, merge or new union found. Assumes nothing.
+use mathlib.Core.Path.{_≡_, refl, sym, ap, ap₂, _∙_}
 use mathlib.Core.Bool.{Bool, true, false, not, _||_, true≢false}
 use mathlib.Core.List.{List, [], _∷_}
 use Prim.Native.Nat.{ℕ, _*_, _^_, _≤_}
@@ -7,12 +7,12 @@ use borrow.Author.Tests.{le-ltb, ltb-false, eq-eqb, eqb-true, not-false}
 use lib.Dec.{eqb, ltb}
 use lib.ListN.{length}
 use Rattle.laws.specs.Choose.{choose}
-use Rattle.refusals.specs.Outcome.{Outcome, accepted, refused}
-use Rattle.refusals.proofs.Refusing.{took}
+use Rattle.refusals.specs.Outcome.{Outcome, accepted, refused, andThen}
+use Rattle.refusals.proofs.Refusing.{took, then-accepted}
 use Rattle.numbers.specs.Calls.{outside}
 use Rattle.numbers.specs.Numbers.{flavorAt}
 use Rattle.numbers.specs.Told.{flavorNumber}
-use Rattle.matrices.specs.Calls.{wrongRows, offsetIn, windowIn, listed, splitOf, expandOf}
+use Rattle.matrices.specs.Calls.{wrongRows, offsetIn, windowIn, listed, splitOf, expandOf, lawfulUnion, newUnionOf, mergeJudged}
 use Rattle.matrices.specs.Matrix.{coupons, reserved}
 use Rattle.matrices.specs.Parts.{firstColumn}
 use Rattle.matrices.specs.Source.{hasWindow, wrongWindow, sourceJudged}
@@ -38,6 +38,9 @@ module _ (lg : ℕ) where
 
   right-rows : (l : List ℕ) → length l ≡ 2 ^ lg → wrongRows lg l ≡ false
   right-rows l e = ap not (eq-eqb (length l) (2 ^ lg) e)
+
+  pub inside-least : outside lg ≡ false → 4 ≤ lg
+  inside-least e = ltb-false lg 4 (or-none (ltb lg 4) (ltb 26 lg) e .0)
 
   pub inside-most : outside lg ≡ false → lg ≤ 26
   inside-most e = ltb-false 26 lg (or-none (ltb lg 4) (ltb 26 lg) e .1)
@@ -98,3 +101,62 @@ module _ (lg c : ℕ) (window ps m : List ℕ) where
     where
       rest : Outcome
       rest = choose (ltb (64 * 2 ^ lg) c) (refused 17 0) (choose (wrongRows lg m || wrongWindow (2 ^ lg) c window) (refused 2 0) (sourceJudged lg c window ps))
+
+-- ---- what an accepted merge found
+
+pub record Merged (lg present seed : ℕ) (m : List ℕ) (from other c : ℕ) (window ps : List ℕ) : Type 0 where
+  pub inside : outside from ≡ false
+  pub configured : outside lg ≡ false
+  pub most : c ≤ 64 * 2 ^ from
+  pub rows : length m ≡ 2 ^ lg
+  pub bytes : length window ≡ choose (hasWindow (2 ^ from) c) (2 ^ from) 0
+  pub lawful : lawfulUnion lg present m ≡ true
+  pub source : Accepted from c window ps
+  pub seeds : seed ≡ other
+
+pub merge-accepted : (lg present seed : ℕ) (m : List ℕ) (from other c : ℕ) (window ps values : List ℕ)
+    → mergeJudged lg present seed m from other c window ps ≡ accepted values → Merged lg present seed m from other c window ps
+unfolding mergeJudged
+merge-accepted lg present seed m from other c window ps values e =
+    let n = choose (hasWindow (2 ^ from) c) (2 ^ from) 0 in
+    let a = took (outside from || outside lg) _ 1 0 values e in
+    let b = took (ltb (64 * 2 ^ from) c) _ 17 0 values (a .1) in
+    let d = took (wrongRows lg m || wrongWindow (2 ^ from) c window) _ 2 0 values (b .1) in
+    let f = took (not (lawfulUnion lg present m)) _ 15 0 values (d .1) in
+    let g = then-accepted (sourceJudged from c window ps) _ values (f .1) in
+    let h = took (not (eqb seed other)) _ 16 0 values (g .1) in
+    let s = or-none (outside from) (outside lg) (a .0) in
+    let t = or-none (wrongRows lg m) (wrongWindow (2 ^ from) c window) (d .0) in
+    record {
+      inside = s .0;
+      configured = s .1;
+      most = ltb-false (64 * 2 ^ from) c (b .0);
+      rows = right lg m (t .0);
+      bytes = eqb-true (length window) n (not-false (eqb (length window) n) (t .1));
+      lawful = not-false (lawfulUnion lg present m) (f .0);
+      source = source-accepted from c window ps (g .0 .0) (g .0 .1);
+      seeds = eqb-true seed other (not-false (eqb seed other) (h .0));
+    }
+
+-- a merge judges its source alike, whatever a lawful union holds
+pub merge-same : (lg present seed : ℕ) (m : List ℕ) (present′ : ℕ) (m′ : List ℕ) (from other c : ℕ) (window ps : List ℕ) → length m ≡ 2 ^ lg → length m′ ≡ 2 ^ lg
+    → lawfulUnion lg present m ≡ true → lawfulUnion lg present′ m′ ≡ true
+    → mergeJudged lg present seed m from other c window ps ≡ mergeJudged lg present′ seed m′ from other c window ps
+unfolding mergeJudged
+merge-same lg present seed m present′ m′ from other c window ps n n′ l l′ =
+    ap₂
+    (λ (t u : Bool).
+    choose (outside from || outside lg) (refused 1 0)
+    (choose (ltb (64 * 2 ^ from) c) (refused 17 0)
+    (choose (t || wrongWindow (2 ^ from) c window) (refused 2 0)
+    (choose (not u) (refused 15 0) (andThen (sourceJudged from c window ps) (choose (not (eqb seed other)) (refused 16 0) (accepted [])))))))
+    (right-rows lg m n ∙ sym (right-rows lg m′ n′)) (l ∙ sym l′)
+
+-- ---- and an accepted new union
+
+pub new-accepted : (lg seed : ℕ) (m values : List ℕ) → newUnionOf lg seed m ≡ accepted values → (outside lg ≡ false) × (length m ≡ 2 ^ lg)
+unfolding newUnionOf
+new-accepted lg seed m values e =
+    let a = took (outside lg) _ 1 0 values e in
+    let b = took (wrongRows lg m) _ 2 0 values (a .1) in
+    (a .0, right lg m (b .0))

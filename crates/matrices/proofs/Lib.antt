@@ -5,7 +5,7 @@ pub mod Rows
 pub mod Folding
 pub mod Counting
 pub mod Merging
-pub mod Union
+pub mod Modulo
 pub mod SourceRows
 pub mod Joined
 pub mod Listed

@@ -22,7 +22,7 @@ use Rattle.matrices.specs.Matrix.{at, matrixOf}
 use Rattle.matrices.specs.Shapes.{folded, merged}
 use Rattle.matrices.proofs.Folding.{partly, partly-low, partly-past, partly-rest}
 use Rattle.matrices.proofs.Rows.{at-matrix, matrix-is, matrix-same, set-matrix, put, put-same, put-other}
-use Rattle.matrices.proofs.Union.{down-find, down-of}
+use Rattle.matrices.proofs.Modulo.{down-find, down-of}
 
 -- ---- the fold
 
