@@ -27,4 +27,5 @@ pub mod MergeWhole
 pub mod SplitLists
 pub mod Answered
 pub mod Undone
+pub mod Lasting
 pub mod Fits
