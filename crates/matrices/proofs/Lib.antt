@@ -28,4 +28,5 @@ pub mod SplitLists
 pub mod Answered
 pub mod Undone
 pub mod Lasting
+pub mod Holding
 pub mod Fits

@@ -1,0 +1,192 @@
+-- What a union holds: exactly the pairs (row mod k, column) of all accepted sketches that are not Empty, k being the least of theirs and the configured one. Assumes nothing.
+use mathlib.Core.Path.{_≡_, refl, sym, ap, ap₂, _∙_, subst₂}
+use mathlib.Core.Bool.{Bool, true, false, not, _&&_, _||_}
+use mathlib.Core.List.{List, [], _∷_}
+use Prim.Native.Nat.{ℕ, _-_, _+_, _*_, _^_, _≤_, _<_, min}
+use native.Mathlib.Omega.{arith}
+use lib.Dec.{eqb}
+use lib.ListN.{length, replicate, getD-replicate}
+use lib.Pow.{pow-pos, pow-mono, pow-add}
+use Rattle.laws.specs.Choose.{choose}
+use Rattle.laws.specs.Columns.{has}
+use Rattle.laws.proofs.Columns.{has-zero}
+use Rattle.refusals.specs.Outcome.{Outcome, accepted, refused, stopped, ifAccepted}
+use Rattle.numbers.specs.Calls.{outside}
+use Rattle.matrices.specs.Calls.{lawfulUnion, presentAfter, downTo, mergedAt, mergedMatrix}
+use Rattle.matrices.specs.History.{Sketch, Union, judgedBy, mergedInto, newUnion, unionOfAll, counts, leastLg, heldByAny}
+use Rattle.matrices.specs.Matrix.{at, matrixOf}
+use Rattle.matrices.specs.Source.{held}
+use Rattle.matrices.proofs.Answered.{merge-same}
+use Rattle.matrices.proofs.Lasting.{InOrder, zeros-in-order, merge-in-order}
+use Rattle.matrices.proofs.Lawful.{lawful-is}
+use Rattle.matrices.proofs.Modulo.{down-none, down-same, down-or, down-down}
+use Rattle.matrices.proofs.Rows.{at-matrix, matrix-same, matrix-is}
+
+or-swap : (a b : Bool) → (a || b) ≡ (b || a)
+or-swap true true = refl
+or-swap true false = refl
+or-swap false true = refl
+or-swap false false = refl
+
+module _ (lg seed : ℕ) where
+  -- the pairs that a sketch stands for
+  abbrev pairsOf : Sketch → ℕ → ℕ → Bool
+  pairsOf s = held (2 ^ s .lg) (s .coupons) (s .window) (s .pairs)
+
+  -- a fold of all to fewer rows is what all would be at fewer rows
+  fold-one : (k d n size : ℕ) (f : ℕ → ℕ → Bool) (r c : ℕ) → 0 < k → 0 < k * d → k * d ≤ size → (b : Bool)
+      → downTo k size (λ t e. b && downTo (k * d) n f t e) r c ≡ (b && downTo k n f r c)
+  fold-one k d n size f r c p q l true = down-down k d n size f r c p q l
+  fold-one k d n size f r c p q l false = down-none k size r c
+
+  fold-all : (k d size r c : ℕ) → 0 < k → 0 < k * d → k * d ≤ size → (sketches : List Sketch)
+      → downTo k size (heldByAny lg seed (k * d) sketches) r c ≡ heldByAny lg seed k sketches r c
+  unfolding heldByAny
+  fold-all k d size r c p q l [] = down-none k size r c
+  fold-all k d size r c p q l (s ∷ more) =
+      down-or k size (λ t e. counts lg seed s && downTo (k * d) (2 ^ s .lg) (pairsOf s) t e) (heldByAny lg seed (k * d) more) r c p
+      ∙ ap₂ _||_ (fold-one k d (2 ^ s .lg) size (pairsOf s) r c p q l (counts lg seed s)) (fold-all k d size r c p q l more)
+
+  -- ---- one merge
+
+  -- what is said of a union after the sketches of a list
+  pub record Holds (u : Union) (sketches : List Sketch) : Type 0 where
+    pub order : InOrder lg (u .present) (u .matrix)
+    pub least : u .present ≡ leastLg lg seed sketches
+    pub exactly : u .matrix ≡ matrixOf (2 ^ lg) (heldByAny lg seed (2 ^ leastLg lg seed sketches) sketches)
+
+  module _ (u : Union) (before : List Sketch) (h : Holds u before) (s : Sketch) where
+    abbrev L : ℕ
+    L = leastLg lg seed before
+
+    -- a sketch that does not count changes nothing
+    unchanged : counts lg seed s ≡ false → Holds u (s ∷ before)
+    unfolding leastLg heldByAny
+    unchanged e = record {
+      order = h .order;
+      least = h .least ∙ sym (ap (λ (t : Bool). choose t (min L (s .lg)) L) e);
+      exactly =
+          h .exactly
+          ∙ sym
+          (ap (λ (t : Bool). matrixOf (2 ^ lg) (λ r c. (t && downTo (2 ^ choose t (min L (s .lg)) L) (2 ^ s .lg) (pairsOf s) r c) || heldByAny lg seed (2 ^ choose t (min L (s .lg)) L) before r c)) e);
+    }
+
+    -- one that counts: the rows of both, mod the lesser k
+    abbrev p : ℕ
+    p = min L (s .lg)
+
+    rows-above : p + (L - p) ≡ L
+    rows-above = omega arith
+
+    grown : ((r c : ℕ) → r < 2 ^ lg → c < 64 → mergedAt (2 ^ p) (u .matrix) (2 ^ s .lg) (pairsOf s) r c ≡ (downTo (2 ^ p) (2 ^ s .lg) (pairsOf s) r c || heldByAny lg seed (2 ^ p) before r c))
+    unfolding mergedAt
+    grown r c l b =
+        let n = h .order .rows in
+        let f = heldByAny lg seed (2 ^ L) before in
+        let e : 2 ^ L ≡ 2 ^ p * 2 ^ (L - p) = ap (λ (x : ℕ). 2 ^ x) (sym rows-above) ∙ pow-add 2 p (L - p) in
+        let most : 2 ^ L ≤ 2 ^ lg = pow-mono {i = L} {j = lg} (omega (arith, lawful-is lg (u .present) (u .matrix) (h .order .lawful) .most, h .least)) in
+        or-swap (downTo (2 ^ p) (length (u .matrix)) (at (u .matrix)) r c) (downTo (2 ^ p) (2 ^ s .lg) (pairsOf s) r c)
+        ∙ ap (λ (t : Bool). downTo (2 ^ p) (2 ^ s .lg) (pairsOf s) r c || t)
+        (ap (λ (x : ℕ). downTo (2 ^ p) x (at (u .matrix)) r c) n
+        ∙ down-same (2 ^ p) (2 ^ lg) (at (u .matrix)) f r c (λ t g. ap (λ (x : List ℕ). at x t c) (h .exactly) ∙ at-matrix (2 ^ lg) f t c g b)
+        ∙ ap (λ (k : ℕ). downTo (2 ^ p) (2 ^ lg) (heldByAny lg seed k before) r c) e
+        ∙ fold-all (2 ^ p) (2 ^ (L - p)) (2 ^ lg) r c (pow-pos p) (omega (arith, pow-pos L)) (omega arith) before)
+
+    merged-matrix : counts lg seed s ≡ true → matrixOf (length (u .matrix)) (mergedAt (2 ^ min (u .present) (s .lg)) (u .matrix) (2 ^ s .lg) (pairsOf s))
+        ≡ matrixOf (2 ^ lg) (heldByAny lg seed (2 ^ leastLg lg seed (s ∷ before)) (s ∷ before))
+    unfolding leastLg heldByAny
+    merged-matrix e =
+        ap₂ (λ (n q : ℕ). matrixOf n (mergedAt (2 ^ min q (s .lg)) (u .matrix) (2 ^ s .lg) (pairsOf s))) (h .order .rows) (h .least)
+        ∙ matrix-same (2 ^ lg) (mergedAt (2 ^ p) (u .matrix) (2 ^ s .lg) (pairsOf s)) (λ r c. downTo (2 ^ p) (2 ^ s .lg) (pairsOf s) r c || heldByAny lg seed (2 ^ p) before r c) grown
+        ∙ sym
+        (ap (λ (t : Bool). matrixOf (2 ^ lg) (λ r c. (t && downTo (2 ^ choose t (min L (s .lg)) L) (2 ^ s .lg) (pairsOf s) r c) || heldByAny lg seed (2 ^ choose t (min L (s .lg)) L) before r c)) e)
+
+    -- the judgement does not depend on what was merged before
+    alike : outside lg ≡ false → judgedBy lg seed u s ≡ judgedBy lg seed (newUnion lg) s
+    alike i =
+        let z = zeros-in-order lg (2 ^ lg) i refl in
+        merge-same lg (u .present) seed (u .matrix) lg (replicate (2 ^ lg) 0) (s .lg) (s .seed) (s .coupons) (s .window) (s .pairs) (h .order .rows) (z .rows) (h .order .lawful) (z .lawful)
+
+    -- the union after an outcome
+    abbrev next : Outcome → Bool → Union
+    next o empty = record {
+      present = ifAccepted o (choose empty (u .present) (min (u .present) (s .lg))) (u .present);
+      matrix = ifAccepted o (choose empty (u .matrix) (matrixOf (length (u .matrix)) (mergedAt (2 ^ choose empty (u .present) (min (u .present) (s .lg))) (u .matrix) (2 ^ s .lg) (pairsOf s)))) (u .matrix);
+    }
+
+    step : outside lg ≡ false → Holds (mergedInto lg seed u s) (s ∷ before)
+    unfolding leastLg
+    step i = go (judgedBy lg seed u s) (eqb (s .coupons) 0) refl refl
+      where
+        go : (o : Outcome) (empty : Bool) → judgedBy lg seed u s ≡ o → eqb (s .coupons) 0 ≡ empty → Holds (next o empty) (s ∷ before)
+        go (refused number place) empty e z = unchanged (ap (λ (o : Outcome). ifAccepted o (not (eqb (s .coupons) 0)) false) (sym (alike i) ∙ e))
+        go (stopped number place bit) empty e z = unchanged (ap (λ (o : Outcome). ifAccepted o (not (eqb (s .coupons) 0)) false) (sym (alike i) ∙ e))
+        go (accepted values) true e z = unchanged (ap₂ (λ (o : Outcome) (t : Bool). ifAccepted o (not t) false) (sym (alike i) ∙ e) z)
+        go (accepted values) false e z =
+            let yes : counts lg seed s ≡ true = ap₂ (λ (o : Outcome) (t : Bool). ifAccepted o (not t) false) (sym (alike i) ∙ e) z in
+            let kept = merge-in-order lg (u .present) seed (u .matrix) (s .lg) (s .seed) (s .coupons) (s .window) (s .pairs) values (h .order .words) e in
+            record {
+              order = subst₂ (λ (o : Outcome) (t : Bool). InOrder lg (next (accepted values) t .present) (next o t .matrix)) e z kept;
+              least = ap (λ (q : ℕ). min q (s .lg)) (h .least) ∙ sym (ap (λ (t : Bool). choose t (min L (s .lg)) L) yes);
+              exactly = merged-matrix yes;
+            }
+
+  -- ---- all merges
+
+  pub union-holds : outside lg ≡ false → (sketches : List Sketch) → Holds (unionOfAll lg seed sketches) sketches
+  unfolding unionOfAll leastLg heldByAny
+  union-holds i [] =
+      let z = zeros-in-order lg (2 ^ lg) i refl in
+      record { order = z; least = refl; exactly = matrix-is (replicate (2 ^ lg) 0) (2 ^ lg) (λ r c. false) (z .rows) (z .words) (λ r c g b. none (2 ^ lg) r c g) }
+    where
+      none : (n r c : ℕ) → r < n → at (replicate n 0) r c ≡ false
+      none n r c g = ap (λ (w : ℕ). has w c) (getD-replicate n r 0 0 g) ∙ has-zero c
+  union-holds i (s ∷ before) = step (unionOfAll lg seed before) before (union-holds i before) s i
+
+-- ---- the order makes no difference
+
+-- the same sketches in another order
+pub data Reordered : List Sketch → List Sketch → Type 0 where
+  same : {l : List Sketch} → Reordered l l
+  keep : {s : Sketch} {l r : List Sketch} → Reordered l r → Reordered (s ∷ l) (s ∷ r)
+  swap : {s t : Sketch} {l : List Sketch} → Reordered (s ∷ t ∷ l) (t ∷ s ∷ l)
+  both : {a b c : List Sketch} → Reordered a b → Reordered b c → Reordered a c
+
+module _ (lg seed : ℕ) where
+  least-swap : (n x y : ℕ) (a b : Bool) → choose a (min (choose b (min n y) n) x) (choose b (min n y) n) ≡ choose b (min (choose a (min n x) n) y) (choose a (min n x) n)
+  least-swap n x y true true = omega arith
+  least-swap n x y true false = refl
+  least-swap n x y false true = refl
+  least-swap n x y false false = refl
+
+  least-order : {a b : List Sketch} → Reordered a b → leastLg lg seed a ≡ leastLg lg seed b
+  unfolding leastLg
+  least-order same = refl
+  least-order (keep {s = s} r) = ap (λ (n : ℕ). choose (counts lg seed s) (min n (s .lg)) n) (least-order r)
+  least-order (swap {s = s} {t = t} {l = l}) = least-swap (leastLg lg seed l) (s .lg) (t .lg) (counts lg seed s) (counts lg seed t)
+  least-order (both r q) = least-order r ∙ least-order q
+
+  or-turn : (a b c : Bool) → (a || (b || c)) ≡ (b || (a || c))
+  or-turn true true c = refl
+  or-turn true false c = refl
+  or-turn false b c = refl
+
+  held-order : {a b : List Sketch} → Reordered a b → (k r c : ℕ) → heldByAny lg seed k a r c ≡ heldByAny lg seed k b r c
+  unfolding heldByAny
+  held-order same k r c = refl
+  held-order (keep {s = s} q) k r c = ap (λ (t : Bool). (counts lg seed s && downTo k (2 ^ s .lg) (pairsOf lg seed s) r c) || t) (held-order q k r c)
+  held-order (swap {s = s} {t = t} {l = l}) k r c =
+      or-turn (counts lg seed s && downTo k (2 ^ s .lg) (pairsOf lg seed s) r c) (counts lg seed t && downTo k (2 ^ t .lg) (pairsOf lg seed t) r c) (heldByAny lg seed k l r c)
+  held-order (both q w) k r c = held-order q k r c ∙ held-order w k r c
+
+  -- the union is the same: its present lg_k and its matrix
+  pub order-free : outside lg ≡ false → {a b : List Sketch} → Reordered a b → unionOfAll lg seed a ≡ unionOfAll lg seed b
+  order-free i {a} {b} r =
+      let x = union-holds lg seed i a in
+      let y = union-holds lg seed i b in
+      let p : unionOfAll lg seed a .present ≡ unionOfAll lg seed b .present = x .least ∙ least-order r ∙ sym (y .least) in
+      let m : unionOfAll lg seed a .matrix ≡ unionOfAll lg seed b .matrix =
+      x .exactly ∙ ap (λ (n : ℕ). matrixOf (2 ^ lg) (heldByAny lg seed (2 ^ n) a)) (least-order r)
+      ∙ matrix-same (2 ^ lg) (heldByAny lg seed (2 ^ leastLg lg seed b) a) (heldByAny lg seed (2 ^ leastLg lg seed b) b) (λ t c g l. held-order r (2 ^ leastLg lg seed b) t c)
+      ∙ sym (y .exactly) in
+      ap₂ (λ (q : ℕ) (l : List ℕ). record { present = q; matrix = l }) p m
