@@ -5,22 +5,20 @@ use mathlib.Core.List.{List, [], _∷_}
 use Prim.Native.Nat.{ℕ, _-_, _+_, _*_, _^_, _≤_, _<_, min}
 use native.Mathlib.Omega.{arith}
 use lib.Dec.{eqb}
-use lib.ListN.{length, replicate, getD-replicate}
+use lib.ListN.{length, replicate}
 use lib.Pow.{pow-pos, pow-mono, pow-add}
 use Rattle.laws.specs.Choose.{choose}
-use Rattle.laws.specs.Columns.{has}
-use Rattle.laws.proofs.Columns.{has-zero}
 use Rattle.refusals.specs.Outcome.{Outcome, accepted, refused, stopped, ifAccepted}
 use Rattle.numbers.specs.Calls.{outside}
-use Rattle.matrices.specs.Calls.{lawfulUnion, presentAfter, downTo, mergedAt, mergedMatrix}
+use Rattle.matrices.specs.Calls.{downTo, mergedAt}
 use Rattle.matrices.specs.History.{Sketch, Union, judgedBy, mergedInto, newUnion, unionOfAll, counts, leastLg, heldByAny}
 use Rattle.matrices.specs.Matrix.{at, matrixOf}
 use Rattle.matrices.specs.Source.{held}
 use Rattle.matrices.proofs.Answered.{merge-same}
-use Rattle.matrices.proofs.Lasting.{InOrder, zeros-in-order, merge-in-order}
+use Rattle.matrices.proofs.Lasting.{InOrder, zeros-matrix, zeros-in-order, merge-in-order}
 use Rattle.matrices.proofs.Lawful.{lawful-is}
 use Rattle.matrices.proofs.Modulo.{down-none, down-same, down-or, down-down}
-use Rattle.matrices.proofs.Rows.{at-matrix, matrix-same, matrix-is}
+use Rattle.matrices.proofs.Rows.{at-matrix, matrix-same}
 
 or-swap : (a b : Bool) → (a || b) ≡ (b || a)
 or-swap true true = refl
@@ -137,10 +135,7 @@ module _ (lg seed : ℕ) where
   unfolding unionOfAll leastLg heldByAny
   union-holds i [] =
       let z = zeros-in-order lg (2 ^ lg) i refl in
-      record { order = z; least = refl; exactly = matrix-is (replicate (2 ^ lg) 0) (2 ^ lg) (λ r c. false) (z .rows) (z .words) (λ r c g b. none (2 ^ lg) r c g) }
-    where
-      none : (n r c : ℕ) → r < n → at (replicate n 0) r c ≡ false
-      none n r c g = ap (λ (w : ℕ). has w c) (getD-replicate n r 0 0 g) ∙ has-zero c
+      record { order = z; least = refl; exactly = zeros-matrix (2 ^ lg) }
   union-holds i (s ∷ before) = step (unionOfAll lg seed before) before (union-holds i before) s i
 
 -- ---- the order makes no difference

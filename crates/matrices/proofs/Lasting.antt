@@ -1,32 +1,31 @@
 -- A union stays lawful: what a new union and a merge leave, the next merge finds in order. Assumes nothing.
-use mathlib.Core.Path.{_≡_, refl, sym, ap, ap₂, _∙_, subst}
+use mathlib.Core.Path.{_≡_, sym, ap, ap₂, _∙_, subst}
 use mathlib.Core.Logic.{⊎-elim}
 use mathlib.Core.Bool.{Bool, true, false, not, _&&_, _||_, true≢false}
 use mathlib.Core.List.{List}
-use Prim.Native.Nat.{ℕ, _*_, _%_, _^_, _≤_, _<_, min}
+use Prim.Native.Nat.{ℕ, _^_, _≤_, _<_, min}
 use native.Mathlib.Nat.{mod-eq-of-lt}
 use native.Mathlib.Omega.{arith}
-use borrow.Author.Tests.{eq-eqb, ne-eqb, eqb-true}
-use lib.Dec.{eqb, ltb}
+use borrow.Author.Tests.{eq-eqb, eqb-true}
+use lib.Dec.{eqb}
 use lib.ListN.{length, getD, replicate, length-replicate, getD-replicate, List·getD-eq-default}
 use lib.Pow.{pow-pos, pow-mono}
 use Rattle.laws.specs.Choose.{choose}
-use Rattle.laws.specs.Columns.{has, wordOf}
+use Rattle.laws.specs.Columns.{has}
 use Rattle.laws.proofs.Columns.{has-zero}
-use Rattle.laws.proofs.Orders.{lt-or-le, same-or-not}
-use Rattle.laws.proofs.Truths.{never-true, or-true, and-left, and-right, true-or-false}
+use Rattle.laws.proofs.Orders.{lt-or-le}
+use Rattle.laws.proofs.Truths.{never-true, and-left, and-right}
 use Rattle.laws.proofs.Words.{wordOf-lt, wordOf-same, wordOf-none}
 use Rattle.refusals.specs.Outcome.{Outcome, accepted, ifAccepted}
 use Rattle.numbers.specs.Calls.{outside}
 use Rattle.matrices.specs.Calls.{wrongRows, lawfulUnion, newUnionOf, newMatrix, mergeJudged, presentAfter, downTo, mergedAt, mergedMatrix}
 use Rattle.matrices.specs.Matrix.{at, matrixOf, coupons, reserved}
 use Rattle.matrices.specs.Source.{held}
-use Rattle.matrices.proofs.Accepting.{Accepted}
 use Rattle.matrices.proofs.Answered.{Merged, merge-accepted, new-accepted, inside-least, inside-most, right-rows}
 use Rattle.matrices.proofs.Fits.{coupons-fit}
 use Rattle.matrices.proofs.Lawful.{Lawful, lawful-is, lawful-of}
 use Rattle.matrices.proofs.Modulo.{down-find, down-past}
-use Rattle.matrices.proofs.Rows.{length-matrix, row-matrix, at-matrix}
+use Rattle.matrices.proofs.Rows.{length-matrix, row-matrix, at-matrix, matrix-is}
 
 -- a union that the next merge finds in order: as many rows as configured, words of 64 columns, and lawful
 pub record InOrder (lg present : ℕ) (m : List ℕ) : Type 0 where
@@ -59,6 +58,11 @@ clear-at lg m e q = sym (ap (λ (t : Bool). t && at m 67108863 63) (eq-eqb lg 26
 zeros : (n r : ℕ) → getD {A = ℕ} (replicate n 0) r 0 ≡ 0
 zeros n r =
     ⊎-elim (λ (h : r < n). getD-replicate n r 0 0 h) (λ (h : n ≤ r). List·getD-eq-default (replicate n 0) 0 (omega (arith, length-replicate {A = ℕ} n 0))) (lt-or-le r n)
+
+-- zeros hold nothing
+pub zeros-matrix : (n : ℕ) → replicate n 0 ≡ matrixOf n (λ r c. false)
+zeros-matrix n =
+    matrix-is (replicate n 0) n (λ r c. false) (length-replicate n 0) (λ r. omega (arith, zeros n r, pow-pos 64)) (λ r c h l. ap (λ (w : ℕ). has w c) (zeros n r) ∙ has-zero c)
 
 pub zeros-in-order : (lg n : ℕ) → outside lg ≡ false → n ≡ 2 ^ lg → InOrder lg lg (replicate n 0)
 zeros-in-order lg n inside rows = record {

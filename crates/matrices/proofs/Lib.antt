@@ -27,6 +27,8 @@ pub mod MergeWhole
 pub mod SplitLists
 pub mod Answered
 pub mod Undone
+pub mod MergeCalls
 pub mod Lasting
+pub mod FirstMerge
 pub mod Holding
 pub mod Fits
