@@ -45,12 +45,12 @@ module _ (lg present : ℕ) (m : List ℕ) (u : InOrder lg present m) where
   order-fits l = coupons-fit lg m l (u .rows) (lawful-is lg present m (u .lawful) .clear)
 
 -- the reserved bit is clear where it is clear at lg_k 26
-clear-by : (lg : ℕ) (m : List ℕ) → (lg ≡ 26 → at m 67108863 63 ≡ false) → reserved lg m ≡ false
+pub clear-by : (lg : ℕ) (m : List ℕ) → (lg ≡ 26 → at m 67108863 63 ≡ false) → reserved lg m ≡ false
 clear-by lg m h =
     never-true (reserved lg m)
     (λ e. true≢false (sym (and-right (eqb lg 26) (at m 67108863 63) e) ∙ h (eqb-true lg 26 (and-left (eqb lg 26) (at m 67108863 63) e))))
 
-clear-at : (lg : ℕ) (m : List ℕ) → reserved lg m ≡ false → lg ≡ 26 → at m 67108863 63 ≡ false
+pub clear-at : (lg : ℕ) (m : List ℕ) → reserved lg m ≡ false → lg ≡ 26 → at m 67108863 63 ≡ false
 clear-at lg m e q = sym (ap (λ (t : Bool). t && at m 67108863 63) (eq-eqb lg 26 q)) ∙ e
 
 -- ---- a new union

@@ -30,5 +30,6 @@ pub mod Undone
 pub mod MergeCalls
 pub mod Lasting
 pub mod FirstMerge
+pub mod UnionSplit
 pub mod Holding
 pub mod Fits
