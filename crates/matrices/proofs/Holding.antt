@@ -10,11 +10,11 @@ use lib.Pow.{pow-pos, pow-mono, pow-add}
 use Rattle.laws.specs.Choose.{choose}
 use Rattle.refusals.specs.Outcome.{Outcome, accepted, refused, stopped, ifAccepted}
 use Rattle.numbers.specs.Calls.{outside}
-use Rattle.matrices.specs.Calls.{downTo, mergedAt}
+use Rattle.matrices.specs.Calls.{newUnionOf, newMatrix, downTo, mergedAt}
 use Rattle.matrices.specs.History.{Sketch, Union, judgedBy, mergedInto, newUnion, unionOfAll, counts, leastLg, heldByAny}
 use Rattle.matrices.specs.Matrix.{at, matrixOf}
 use Rattle.matrices.specs.Source.{held}
-use Rattle.matrices.proofs.Answered.{merge-same}
+use Rattle.matrices.proofs.Answered.{merge-same, new-accepted}
 use Rattle.matrices.proofs.Lasting.{InOrder, zeros-matrix, zeros-in-order, merge-in-order}
 use Rattle.matrices.proofs.Lawful.{lawful-is}
 use Rattle.matrices.proofs.Modulo.{down-none, down-same, down-or, down-down}
@@ -26,11 +26,11 @@ or-swap true false = refl
 or-swap false true = refl
 or-swap false false = refl
 
-module _ (lg seed : ℕ) where
-  -- the pairs that a sketch stands for
-  abbrev pairsOf : Sketch → ℕ → ℕ → Bool
-  pairsOf s = held (2 ^ s .lg) (s .coupons) (s .window) (s .pairs)
+-- the pairs that a sketch stands for
+abbrev pub pairsOf : Sketch → ℕ → ℕ → Bool
+pairsOf s = held (2 ^ s .lg) (s .coupons) (s .window) (s .pairs)
 
+module _ (lg seed : ℕ) where
   -- a fold of all to fewer rows is what all would be at fewer rows
   fold-one : (k d n size : ℕ) (f : ℕ → ℕ → Bool) (r c : ℕ) → 0 < k → 0 < k * d → k * d ≤ size → (b : Bool)
       → downTo k size (λ t e. b && downTo (k * d) n f t e) r c ≡ (b && downTo k n f r c)
@@ -131,57 +131,13 @@ module _ (lg seed : ℕ) where
 
   -- ---- all merges
 
+  -- a new union that is accepted is the one that all begins with
+  pub new-holds : (m values : List ℕ) → newUnionOf lg seed m ≡ accepted values → newMatrix lg seed m ≡ newUnion lg .matrix
+  new-holds m values e = ap (λ (o : Outcome). ifAccepted o (replicate (length m) 0) m) e ∙ ap (λ (n : ℕ). replicate n 0) (new-accepted lg seed m values e .1)
+
   pub union-holds : outside lg ≡ false → (sketches : List Sketch) → Holds (unionOfAll lg seed sketches) sketches
   unfolding unionOfAll leastLg heldByAny
   union-holds i [] =
       let z = zeros-in-order lg (2 ^ lg) i refl in
       record { order = z; least = refl; exactly = zeros-matrix (2 ^ lg) }
   union-holds i (s ∷ before) = step (unionOfAll lg seed before) before (union-holds i before) s i
-
--- ---- the order makes no difference
-
--- the same sketches in another order
-pub data Reordered : List Sketch → List Sketch → Type 0 where
-  same : {l : List Sketch} → Reordered l l
-  keep : {s : Sketch} {l r : List Sketch} → Reordered l r → Reordered (s ∷ l) (s ∷ r)
-  swap : {s t : Sketch} {l : List Sketch} → Reordered (s ∷ t ∷ l) (t ∷ s ∷ l)
-  both : {a b c : List Sketch} → Reordered a b → Reordered b c → Reordered a c
-
-module _ (lg seed : ℕ) where
-  least-swap : (n x y : ℕ) (a b : Bool) → choose a (min (choose b (min n y) n) x) (choose b (min n y) n) ≡ choose b (min (choose a (min n x) n) y) (choose a (min n x) n)
-  least-swap n x y true true = omega arith
-  least-swap n x y true false = refl
-  least-swap n x y false true = refl
-  least-swap n x y false false = refl
-
-  least-order : {a b : List Sketch} → Reordered a b → leastLg lg seed a ≡ leastLg lg seed b
-  unfolding leastLg
-  least-order same = refl
-  least-order (keep {s = s} r) = ap (λ (n : ℕ). choose (counts lg seed s) (min n (s .lg)) n) (least-order r)
-  least-order (swap {s = s} {t = t} {l = l}) = least-swap (leastLg lg seed l) (s .lg) (t .lg) (counts lg seed s) (counts lg seed t)
-  least-order (both r q) = least-order r ∙ least-order q
-
-  or-turn : (a b c : Bool) → (a || (b || c)) ≡ (b || (a || c))
-  or-turn true true c = refl
-  or-turn true false c = refl
-  or-turn false b c = refl
-
-  held-order : {a b : List Sketch} → Reordered a b → (k r c : ℕ) → heldByAny lg seed k a r c ≡ heldByAny lg seed k b r c
-  unfolding heldByAny
-  held-order same k r c = refl
-  held-order (keep {s = s} q) k r c = ap (λ (t : Bool). (counts lg seed s && downTo k (2 ^ s .lg) (pairsOf lg seed s) r c) || t) (held-order q k r c)
-  held-order (swap {s = s} {t = t} {l = l}) k r c =
-      or-turn (counts lg seed s && downTo k (2 ^ s .lg) (pairsOf lg seed s) r c) (counts lg seed t && downTo k (2 ^ t .lg) (pairsOf lg seed t) r c) (heldByAny lg seed k l r c)
-  held-order (both q w) k r c = held-order q k r c ∙ held-order w k r c
-
-  -- the union is the same: its present lg_k and its matrix
-  pub order-free : outside lg ≡ false → {a b : List Sketch} → Reordered a b → unionOfAll lg seed a ≡ unionOfAll lg seed b
-  order-free i {a} {b} r =
-      let x = union-holds lg seed i a in
-      let y = union-holds lg seed i b in
-      let p : unionOfAll lg seed a .present ≡ unionOfAll lg seed b .present = x .least ∙ least-order r ∙ sym (y .least) in
-      let m : unionOfAll lg seed a .matrix ≡ unionOfAll lg seed b .matrix =
-      x .exactly ∙ ap (λ (n : ℕ). matrixOf (2 ^ lg) (heldByAny lg seed (2 ^ n) a)) (least-order r)
-      ∙ matrix-same (2 ^ lg) (heldByAny lg seed (2 ^ leastLg lg seed b) a) (heldByAny lg seed (2 ^ leastLg lg seed b) b) (λ t c g l. held-order r (2 ^ leastLg lg seed b) t c)
-      ∙ sym (y .exactly) in
-      ap₂ (λ (q : ℕ) (l : List ℕ). record { present = q; matrix = l }) p m

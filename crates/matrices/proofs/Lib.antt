@@ -32,4 +32,6 @@ pub mod Lasting
 pub mod FirstMerge
 pub mod UnionSplit
 pub mod Holding
+pub mod HeldPairs
+pub mod Reordering
 pub mod Fits
