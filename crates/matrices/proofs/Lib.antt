@@ -16,6 +16,7 @@ pub mod FirstColumn
 pub mod Members
 pub mod Inverse
 pub mod Bridges
+pub mod SplitCount
 pub mod Judged
 pub mod CouponsHeld
 pub mod LateReserved
