@@ -8,9 +8,9 @@ use lib.Dec.{eqb}
 use lib.ListN.{length, replicate}
 use lib.Pow.{pow-pos, pow-mono, pow-add}
 use Rattle.laws.specs.Choose.{choose}
-use Rattle.refusals.specs.Outcome.{Outcome, accepted, refused, stopped, ifAccepted}
+use Rattle.refusals.specs.Outcome.{Outcome, accepted, refused, stopped, ifAccepted, andThen}
 use Rattle.numbers.specs.Calls.{outside}
-use Rattle.matrices.specs.Calls.{newUnionOf, newMatrix, downTo, mergedAt}
+use Rattle.matrices.specs.Calls.{unionOf, newUnionOf, newMatrix, presentAfter, mergeOf, downTo, mergedAt}
 use Rattle.matrices.specs.History.{Sketch, Union, judgedBy, mergedInto, newUnion, unionOfAll, counts, leastLg, heldByAny}
 use Rattle.matrices.specs.Matrix.{at, matrixOf}
 use Rattle.matrices.specs.Source.{held}
@@ -141,3 +141,18 @@ module _ (lg seed : ℕ) where
       let z = zeros-in-order lg (2 ^ lg) i refl in
       record { order = z; least = refl; exactly = zeros-matrix (2 ^ lg) }
   union-holds i (s ∷ before) = step (unionOfAll lg seed before) before (union-holds i before) s i
+
+  -- what a union says of a sketch does not depend on what was merged before: a sketch counts if the union, when it comes to it, accepts it
+  pub judged-alike : outside lg ≡ false → (before : List Sketch) (s : Sketch) → judgedBy lg seed (unionOfAll lg seed before) s ≡ judgedBy lg seed (newUnion lg) s
+  judged-alike i before s = alike (unionOfAll lg seed before) before (union-holds i before) s i
+
+  -- an accepted merge answers the least lg_k of all
+  pub merge-answers : outside lg ≡ false → (before : List Sketch) (s : Sketch) (values : List ℕ) → judgedBy lg seed (unionOfAll lg seed before) s ≡ accepted values
+      → mergeOf lg (unionOfAll lg seed before .present) seed (unionOfAll lg seed before .matrix) (s .lg) (s .seed) (s .coupons) (s .window) (s .pairs)
+      ≡ accepted (lg ∷ leastLg lg seed (s ∷ before) ∷ seed ∷ [])
+  merge-answers i before s values e =
+      let u = unionOfAll lg seed before in
+      let after = presentAfter (u .present) (s .lg) (s .coupons) in
+      ap (λ (o : Outcome). andThen o (unionOf lg after seed)) e
+      ∙ ap (λ (n : ℕ). unionOf lg n seed)
+      (sym (ap (λ (o : Outcome). ifAccepted o after (u .present)) e) ∙ step u before (union-holds i before) s i .least)

@@ -1,4 +1,4 @@
--- The order of the sketches makes no difference. Assumes nothing.
+-- The order of the sketches makes no difference, nor that one comes twice. Assumes nothing.
 use mathlib.Core.Path.{_≡_, refl, sym, ap, ap₂, _∙_}
 use mathlib.Core.Bool.{Bool, true, false, _&&_, _||_}
 use mathlib.Core.List.{List, _∷_}
@@ -46,14 +46,34 @@ module _ (lg seed : ℕ) where
       or-turn (counts lg seed s && downTo k (2 ^ s .lg) (pairsOf s) r c) (counts lg seed t && downTo k (2 ^ t .lg) (pairsOf t) r c) (heldByAny lg seed k l r c)
   held-order (both q w) k r c = held-order q k r c ∙ held-order w k r c
 
-  -- the union is the same: its present lg_k and its matrix
-  pub order-free : outside lg ≡ false → {a b : List Sketch} → Reordered a b → unionOfAll lg seed a ≡ unionOfAll lg seed b
-  order-free i {a} {b} r =
+  -- unions of the same least lg_k and the same pairs are the same: present lg_k and matrix
+  unions-same : outside lg ≡ false → (a b : List Sketch) → leastLg lg seed a ≡ leastLg lg seed b → ((k r c : ℕ) → heldByAny lg seed k a r c ≡ heldByAny lg seed k b r c)
+      → unionOfAll lg seed a ≡ unionOfAll lg seed b
+  unions-same i a b l h =
       let x = union-holds lg seed i a in
       let y = union-holds lg seed i b in
-      let p : unionOfAll lg seed a .present ≡ unionOfAll lg seed b .present = x .least ∙ least-order r ∙ sym (y .least) in
+      let p : unionOfAll lg seed a .present ≡ unionOfAll lg seed b .present = x .least ∙ l ∙ sym (y .least) in
       let m : unionOfAll lg seed a .matrix ≡ unionOfAll lg seed b .matrix =
-      x .exactly ∙ ap (λ (n : ℕ). matrixOf (2 ^ lg) (heldByAny lg seed (2 ^ n) a)) (least-order r)
-      ∙ matrix-same (2 ^ lg) (heldByAny lg seed (2 ^ leastLg lg seed b) a) (heldByAny lg seed (2 ^ leastLg lg seed b) b) (λ t c g l. held-order r (2 ^ leastLg lg seed b) t c)
+      x .exactly ∙ ap (λ (n : ℕ). matrixOf (2 ^ lg) (heldByAny lg seed (2 ^ n) a)) l
+      ∙ matrix-same (2 ^ lg) (heldByAny lg seed (2 ^ leastLg lg seed b) a) (heldByAny lg seed (2 ^ leastLg lg seed b) b) (λ t c g q. h (2 ^ leastLg lg seed b) t c)
       ∙ sym (y .exactly) in
-      ap₂ (λ (q : ℕ) (l : List ℕ). record { present = q; matrix = l }) p m
+      ap₂ (λ (q : ℕ) (w : List ℕ). record { present = q; matrix = w }) p m
+
+  -- in whatever order they are merged
+  pub order-free : outside lg ≡ false → {a b : List Sketch} → Reordered a b → unionOfAll lg seed a ≡ unionOfAll lg seed b
+  order-free i {a} {b} r = unions-same i a b (least-order r) (held-order r)
+
+  -- a sketch that is merged twice is as one that is merged once
+  pub twice-once : outside lg ≡ false → (s : Sketch) (l : List Sketch) → unionOfAll lg seed (s ∷ s ∷ l) ≡ unionOfAll lg seed (s ∷ l)
+  unfolding leastLg heldByAny
+  twice-once i s l =
+      unions-same i (s ∷ s ∷ l) (s ∷ l) (least-twice (leastLg lg seed l) (s .lg) (counts lg seed s))
+      (λ k r c. or-twice (counts lg seed s && downTo k (2 ^ s .lg) (pairsOf s) r c) (heldByAny lg seed k l r c))
+    where
+      least-twice : (n x : ℕ) (b : Bool) → choose b (min (choose b (min n x) n) x) (choose b (min n x) n) ≡ choose b (min n x) n
+      least-twice n x true = omega arith
+      least-twice n x false = refl
+
+      or-twice : (a b : Bool) → (a || (a || b)) ≡ (a || b)
+      or-twice true b = refl
+      or-twice false b = refl
