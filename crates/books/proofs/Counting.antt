@@ -4,8 +4,8 @@ use mathlib.Core.List.{List, [], _∷_}
 use Prim.Native.Nat.{ℕ, zero, suc, _+_, _-_, _*_, _/_, _^_, _≤_}
 use native.Mathlib.Omega.{arith}
 use lib.Pow.{pow-add, shl-shr}
-use Rattle.laws.specs.Below.{one}
-use Rattle.laws.proofs.Sums.{sumBelow, sum-zero, sum-add, low-parts}
+use Rattle.laws.specs.Below.{one, sumBelow}
+use Rattle.laws.proofs.Sums.{sum-zero, sum-add, low-parts}
 use Rattle.books.specs.Book.{lengthIn, codewordIn, isLowBits, symbolsAt}
 use Rattle.books.specs.Steps.{Shape, AllShaped, taken}
 

@@ -13,13 +13,12 @@ use Rattle.refusals.specs.Outcome.{Outcome, accepted, refused, ifAccepted, andT
 use Rattle.refusals.specs.Told.{told}
 use Rattle.refusals.specs.declared.Refusal.{Refusal}
 use Rattle.refusals.proofs.Only.{never-accepted}
-use Rattle.refusals.proofs.Refusing.{kept, stays, both-accepted}
+use Rattle.refusals.proofs.Refusing.{kept, stays, both-accepted, took}
 use Rattle.numbers.specs.Numbers.{baseBitsAt}
 use Rattle.numbers.specs.Calls.{outside, baseBitsOf}
 use Rattle.books.specs.Calls.{checkTableOf}
 use Rattle.books.specs.Uses.{Decodes}
 use Rattle.books.proofs.Accepted.{table-accepted, table-holds, table-values}
-use Rattle.books.proofs.Verdicts.{took}
 use Rattle.streams.specs.Stream.{number, wordBits}
 use Rattle.streams.specs.Read.{Reading, pairsFrom, bytesFrom}
 use Rattle.streams.specs.Calls.{readOutcome, readInto, pairsReading, readPairsJudged, readPairsOf, pairsRead, windowReading, readWindowJudged, readWindowOf, windowRead}

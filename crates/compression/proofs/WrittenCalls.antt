@@ -16,13 +16,12 @@ use Rattle.refusals.specs.Units.{wordsFor}
 use Rattle.refusals.specs.Told.{told}
 use Rattle.refusals.specs.declared.Refusal.{Refusal}
 use Rattle.refusals.specs.declared.Refusal.the-variants.{NoRoom}
-use Rattle.refusals.proofs.Refusing.{kept, stays, both-accepted}
+use Rattle.refusals.proofs.Refusing.{kept, stays, both-accepted, took}
 use Rattle.numbers.specs.Numbers.{baseBitsAt, mostBitsAt}
 use Rattle.numbers.specs.Calls.{outside, rowsOf, baseBitsOf, mostBitsOf}
 use Rattle.numbers.proofs.RowsTold.{RowsAt, rows-given}
 use Rattle.books.specs.Calls.{checkOf}
 use Rattle.books.specs.Steps.{AllShaped}
-use Rattle.books.proofs.Verdicts.{took}
 use Rattle.books.proofs.Accepted.{book-accepted, book-values}
 use Rattle.pair_lists.specs.Lists.{pairsJudged, judgePairsOf}
 use Rattle.streams.specs.Codes.{Code}

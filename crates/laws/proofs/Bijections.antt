@@ -6,9 +6,10 @@ use Prim.Native.Nat.{ℕ, zero, suc, _+_, _≤_, _<_}
 use native.Mathlib.Omega.{arith}
 use borrow.Author.Tests.{eq-eqb, ne-eqb}
 use lib.Dec.{eqb}
+use Rattle.laws.specs.Below.{sumBelow}
 use Rattle.laws.specs.Choose.{choose}
 use Rattle.laws.proofs.Orders.{lt-or-le, same-or-not}
-use Rattle.laws.proofs.Sums.{sumBelow, sum-zero, sum-add, sum-same}
+use Rattle.laws.proofs.Sums.{sum-zero, sum-add, sum-same}
 
 -- one of the numbers below n is c
 pick-none : (n c : ℕ) (f : ℕ → ℕ) → n ≤ c → sumBelow n (λ p. choose (eqb p c) (f p) 0) ≡ 0

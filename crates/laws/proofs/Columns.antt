@@ -1,16 +1,16 @@
 -- What the machine's operations do to each column of a word. Assumes nothing.
 use mathlib.Core.Path.{_≡_, refl, sym, ap, _∙_, subst}
 use mathlib.Core.Logic.{⊎-elim}
-use mathlib.Core.Bool.{Bool, true, false, _&&_, _||_, true≢false, false≢true}
+use mathlib.Core.Bool.{Bool, true, false, not, _&&_, _||_, true≢false, false≢true}
 use Prim.Native.Nat.{ℕ, zero, suc, _+_, _-_, _*_, _/_, _%_, _^_, _≤_, _<_}
-use native.Mathlib.Nat.{pow-suc, mod-lt, not-suc-le-zero, le-of-suc-le-suc, zero-lt-suc, zero-div, div-eq-of-lt, div-one, lt-of-lt-of-le, one-mul, mul-mod-left, mul-assoc, mul-div-cancel}
+use native.Mathlib.Nat.{pow-suc, mod-lt, not-suc-le-zero, le-of-suc-le-suc, zero-lt-suc, zero-div, div-eq-of-lt, mod-eq-of-lt, div-one, lt-of-lt-of-le, one-mul, mul-mod-left, mul-assoc, mul-div-cancel}
 use native.Mathlib.Omega.{arith}
 use native.Mathlib.Numerals.{add-one}
 use borrow.Author.Tests.{lt-ltb, le-ltb, le-leb, lt-leb, eq-eqb, ne-eqb}
 use lib.Dec.{eqb, ltb, leb}
 use lib.Pow.{pow-pos, pow-mono, pow-add, shr-shr, high, low, field, mod-mod-pow, ones-split, ones-lt}
-use lib.Bits.{bitOr, or-shr, or-mod}
-use Rattle.laws.specs.Columns.{has}
+use lib.Bits.{bitAnd, bitOr, bitXor, and-shr, or-shr, xor-shr, and-mod, or-mod, xor-mod, xor-add-and, and-mask}
+use Rattle.laws.specs.Columns.{has, differs}
 use Rattle.laws.proofs.Orders.{lt-or-le}
 
 -- ---- the machine's operations, digit by digit
@@ -40,6 +40,12 @@ module _ (op : ℕ → ℕ → ℕ) (f : Bool → Bool → Bool) (shr : (a b k :
 pub has-or : (a b c : ℕ) → has (bitOr a b) c ≡ (has a c || has b c)
 has-or = columnwise bitOr _||_ or-shr or-mod (digits2 (λ (a b : ℕ). eqb (bitOr a b) 1 ≡ (eqb a 1 || eqb b 1)) refl refl refl refl)
 
+pub has-and : (a b c : ℕ) → has (bitAnd a b) c ≡ (has a c && has b c)
+has-and = columnwise bitAnd _&&_ and-shr and-mod (digits2 (λ (a b : ℕ). eqb (bitAnd a b) 1 ≡ (eqb a 1 && eqb b 1)) refl refl refl refl)
+
+pub has-xor : (a b c : ℕ) → has (bitXor a b) c ≡ differs (has a c) (has b c)
+has-xor = columnwise bitXor differs xor-shr xor-mod (digits2 (λ (a b : ℕ). eqb (bitXor a b) 1 ≡ differs (eqb a 1) (eqb b 1)) refl refl refl refl)
+
 -- ---- no column; past the end; the empty word
 
 pub has-out : (n w c : ℕ) → w < 2 ^ n → n ≤ c → has w c ≡ false
@@ -66,6 +72,11 @@ has-low-in w j c =
 pub has-low : (w n c : ℕ) → c < n → has (w % 2 ^ n) c ≡ has w c
 has-low w n c h =
     subst (λ (k : ℕ). has (w % 2 ^ k) c ≡ has w c) (omega arith) (has-low-in w (n - suc c) c)
+
+pub has-mod : (w n c : ℕ) → has (w % 2 ^ n) c ≡ (ltb c n && has w c)
+has-mod w n c =
+    ⊎-elim (λ (h : c < n). rw (lt-ltb c n h) (has-low w n c h))
+    (λ (h : n ≤ c). rw (le-ltb c n h) (has-out n (w % 2 ^ n) c (mod-lt w (pow-pos n)) h)) (lt-or-le c n)
 
 pub has-shl-add : (w k c : ℕ) → has (w * 2 ^ k) (k + c) ≡ has w c
 has-shl-add w k c = sym (has-shr (w * 2 ^ k) k c) ∙ ap (λ (x : ℕ). has x c) (mul-div-cancel w (pow-pos k))
@@ -120,6 +131,20 @@ pub has-ones : (n c : ℕ) → has (2 ^ n - 1) c ≡ ltb c n
 has-ones n c =
     ⊎-elim (λ (h : c < n). subst (λ (k : ℕ). has (2 ^ k - 1) c ≡ true) (omega arith) (has-ones-in (n - suc c) c) ∙ sym (lt-ltb c n h))
     (λ (h : n ≤ c). has-out n (2 ^ n - 1) c (ones-lt n) h ∙ sym (le-ltb c n h)) (lt-or-le c n)
+
+-- ---- the complement of a word of n columns
+
+not-xor : (n w : ℕ) → w < 2 ^ n → (2 ^ n - 1) - w ≡ bitXor w (2 ^ n - 1)
+not-xor n w h = omega (arith, xor-add-and w (2 ^ n - 1), and-mask w n, mod-eq-of-lt h, pow-pos n)
+
+pub has-not : (n w c : ℕ) → w < 2 ^ n → c < n → has ((2 ^ n - 1) - w) c ≡ not (has w c)
+has-not n w c h l =
+    ap (λ (x : ℕ). has x c) (not-xor n w h) ∙ has-xor w (2 ^ n - 1) c
+    ∙ ap (differs (has w c)) (has-ones n c ∙ lt-ltb c n l) ∙ flip (has w c)
+  where
+    flip : (b : Bool) → differs b true ≡ not b
+    flip true = refl
+    flip false = refl
 
 -- ---- two words of n columns with the same columns are equal
 

@@ -10,3 +10,7 @@ pub mod Exponents
 pub mod Quotients
 pub mod Powers
 pub mod Bijections
+pub mod Words
+pub mod Any
+pub mod Ones
+pub mod Trailing

@@ -7,13 +7,8 @@ use native.Mathlib.Omega.{arith}
 use borrow.Author.Tests.{eq-eqb, ne-eqb}
 use lib.Dec.{eqb}
 use lib.Arith.{digits-mod}
-use Rattle.laws.specs.Below.{one}
+use Rattle.laws.specs.Below.{one, sumBelow}
 use Rattle.laws.proofs.Orders.{lt-or-le}
-
--- f 0 + .. + f (n - 1)
-unfoldable pub sumBelow : ℕ → (ℕ → ℕ) → ℕ
-sumBelow zero f = 0
-sumBelow (suc n) f = sumBelow n f + f n
 
 pub sum-zero : (n : ℕ) → sumBelow n (λ i. 0) ≡ 0
 unfolding sumBelow

@@ -11,11 +11,6 @@ pub never-true : (b : Bool) → (b ≡ true → ⊥) → b ≡ false
 never-true true h = absurd (h refl)
 never-true false h = refl
 
--- each says what the other says
-pub same-truth : (a b : Bool) → (a ≡ true → b ≡ true) → (b ≡ true → a ≡ true) → a ≡ b
-same-truth true b f g = sym (f refl)
-same-truth false b f g = sym (never-true b (λ (e : b ≡ true). false≢true (g e)))
-
 pub and-left : (a b : Bool) → (a && b) ≡ true → a ≡ true
 and-left true b e = refl
 and-left false b e = e
@@ -45,3 +40,18 @@ or-left a b e = ap (λ (t : Bool). t || b) e
 pub or-right : (a b : Bool) → b ≡ true → (a || b) ≡ true
 or-right true b e = refl
 or-right false b e = e
+
+-- two truth values are equal if each is true where the other is
+pub both-true : (a b : Bool) → (a ≡ true → b ≡ true) → (b ≡ true → a ≡ true) → a ≡ b
+both-true true true f g = refl
+both-true true false f g = sym (f refl)
+both-true false true f g = g refl
+both-true false false f g = refl
+
+pub or-assoc : (a b c : Bool) → ((a || b) || c) ≡ (a || (b || c))
+or-assoc true b c = refl
+or-assoc false b c = refl
+
+pub and-false : (a : Bool) → (a && false) ≡ false
+and-false true = refl
+and-false false = refl

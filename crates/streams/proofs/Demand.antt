@@ -10,11 +10,10 @@ use lib.ListN.{length, drop, length-append, length-drop}
 use lib.Pow.{pow-mono}
 use Rattle.refusals.specs.Outcome.{Outcome, accepted, ifAccepted, andThen}
 use Rattle.refusals.specs.Units.{wordsFor}
-use Rattle.refusals.proofs.Refusing.{both-accepted}
+use Rattle.refusals.proofs.Refusing.{both-accepted, took}
 use Rattle.numbers.specs.Calls.{outside}
 use Rattle.books.specs.Calls.{checkTableOf}
 use Rattle.books.proofs.Accepted.{table-values, table-checks}
-use Rattle.books.proofs.Verdicts.{took}
 use Rattle.pair_lists.specs.Lists.{pairsJudged}
 use Rattle.streams.specs.Codes.{total, pack}
 use Rattle.streams.specs.Written.{pairsCodes, pairsBits, wordsOf}

@@ -7,6 +7,7 @@ use native.Mathlib.Omega.{arith}
 use lib.ListN.{length, getD, drop, drop-of-length-le}
 use lib.Seq.{drop-cons}
 use borrow.Author.Tests.{eq-eqb, ne-eqb, le-leb, lt-leb}
+use Rattle.refusals.proofs.Refusing.{both-accepted}
 use Rattle.refusals.specs.Outcome.{Outcome, accepted, refused, stopped, andThen}
 use Rattle.tables.specs.Slots.{empty}
 use Rattle.tables.specs.Calls.{itemJudged, itemsJudged}
@@ -21,17 +22,13 @@ pub record Fine (v x : ℕ) : Type 0 where
 pub never : {values : List ℕ} {number place : ℕ} → refused number place ≡ accepted values → ⊥
 never e = let z : _≡_ {A = ℕ} 0 1 = cc in omega arith
 
--- two judgements one after the other are accepted: each is
+-- two judgements one after the other are accepted: the first is
 pub first-accepted : (a b : Outcome) {values : List ℕ} → andThen a b ≡ accepted values → (u : List ℕ) × (a ≡ accepted u)
-first-accepted (accepted u) b e = (u, refl)
-first-accepted (refused number place) b e = absurd (never e)
-first-accepted (stopped number place bit) b e = let z : _≡_ {A = ℕ} 0 1 = cc in absurd (omega arith)
+first-accepted a b {values} e = both-accepted a b values e .0
 
 -- so is the second
 pub then-accepted : (a b : Outcome) {values : List ℕ} → andThen a b ≡ accepted values → b ≡ accepted values
-then-accepted (accepted u) b e = e
-then-accepted (refused number place) b e = absurd (never e)
-then-accepted (stopped number place bit) b e = let z : _≡_ {A = ℕ} 0 1 = cc in absurd (omega arith)
+then-accepted a b {values} e = both-accepted a b values e .1
 
 -- what a table takes is accepted
 pub item-fine : (v x place : ℕ) → Fine v x → itemJudged v x place ≡ accepted []

@@ -8,9 +8,10 @@ use native.Mathlib.Nat.{zero-add}
 use lib.ListN.{length, getD, take}
 use lib.Seq.{take-suc}
 use lib.Dec.{eqb}
+use Rattle.laws.specs.Below.{sumBelow}
 use Rattle.laws.specs.Choose.{choose}
 use Rattle.laws.specs.Lists.{listOf}
-use Rattle.laws.proofs.Sums.{sumBelow, sum-same}
+use Rattle.laws.proofs.Sums.{sum-same}
 use Rattle.tables.specs.Slots.{empty, total, held, items}
 use Rattle.tables.specs.Listings.{keep, backwards, isItem}
 use Rattle.tables.specs.Shapes.{snoc}

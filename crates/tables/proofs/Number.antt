@@ -9,8 +9,8 @@ use lib.ListN.{getD}
 use lib.Dec.{eqb}
 use borrow.Author.Tests.{eq-eqb, ne-eqb}
 use Rattle.laws.specs.Choose.{choose}
-use Rattle.laws.specs.Below.{one as told}
-use Rattle.laws.proofs.Sums.{sumBelow, sum-zero, sum-add, sum-same, single}
+use Rattle.laws.specs.Below.{one as told, sumBelow}
+use Rattle.laws.proofs.Sums.{sum-zero, sum-add, sum-same, single}
 use Rattle.tables.specs.Slots.{empty, total, held, holds}
 use Rattle.tables.specs.Shapes.{Lawful}
 use Rattle.tables.proofs.Laws.{held-empty, held-full}

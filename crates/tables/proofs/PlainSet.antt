@@ -8,9 +8,9 @@ use native.Mathlib.Omega.{arith}
 use lib.ListN.{length, getD, getD-replicate}
 use lib.Dec.{eqb}
 use borrow.Author.Tests.{eq-eqb, ne-eqb, eqb-true, eqb-false, not-true}
-use Rattle.laws.specs.Below.{one as told}
-use Rattle.laws.proofs.Truths.{never-true, same-truth, and-left, and-right, and-both, or-true, or-left, or-right}
-use Rattle.laws.proofs.Sums.{sumBelow, sum-same}
+use Rattle.laws.specs.Below.{one as told, sumBelow}
+use Rattle.laws.proofs.Truths.{never-true, both-true, and-left, and-right, and-both, or-true, or-left, or-right}
+use Rattle.laws.proofs.Sums.{sum-same}
 use Rattle.refusals.specs.Outcome.{Outcome, accepted, refused, ifAccepted}
 use Rattle.tables.specs.Slots.{empty, holds}
 use Rattle.tables.specs.Changes.{blank, fill, buildLg, inserted, deleted, halvedLg}
@@ -41,7 +41,7 @@ not-in s n y f = never-true (isIn s n y) (λ e. f (in-member s n y e))
 
 -- the set with x, without x, and with nothing
 added-set : (s : List ℕ) (n : ℕ) (t : List ℕ) (k x : ℕ) → Added s n t k x → (y : ℕ) → isIn t k y ≡ (eqb y x || isIn s n y)
-added-set s n t k x w y = same-truth (isIn t k y) (eqb y x || isIn s n y)
+added-set s n t k x w y = both-true (isIn t k y) (eqb y x || isIn s n y)
     (λ e. ⊎-elim (λ m. or-right (eqb y x) (isIn s n y) (member-in s n y m)) (λ (z : y ≡ x). or-left (eqb y x) (isIn s n y) (eq-eqb y x z)) (w .only y (in-member t k y e)))
     (λ e. ⊎-elim
     (λ (z : eqb y x ≡ true). subst (λ (u : ℕ). isIn t k u ≡ true) (sym (eqb-true y x z)) (member-in t k x (w .has)))
@@ -49,7 +49,7 @@ added-set s n t k x w y = same-truth (isIn t k y) (eqb y x || isIn s n y)
     (or-true (eqb y x) (isIn s n y) e))
 
 taken-set : (s : List ℕ) (n : ℕ) (t : List ℕ) (k x : ℕ) → Taken s n t k x → (y : ℕ) → isIn t k y ≡ (not (eqb y x) && isIn s n y)
-taken-set s n t k x w y = same-truth (isIn t k y) (not (eqb y x) && isIn s n y)
+taken-set s n t k x w y = both-true (isIn t k y) (not (eqb y x) && isIn s n y)
     (λ e.
     let m = in-member t k y e in
     and-both (ap not (ne-eqb y x (λ (z : y ≡ x). w .gone (subst (Member t k) z m)))) (member-in s n y (w .only y m)))
@@ -195,7 +195,7 @@ build-set s e v list z y =
     let built : List ℕ = fill list (length list) (blank s) (buildLg (length list)) v in
     let load = build-fits (length list) (w .most) in
     ap (λ (o : Outcome). isIn (ifBuilt o built (blank s) s) (2 ^ buildLg (length list)) y) z
-    ∙ same-truth (isIn built (2 ^ buildLg (length list)) y) (holds list (length list) y)
+    ∙ both-true (isIn built (2 ^ buildLg (length list)) y) (holds list (length list) y)
     (λ e.
     let r = build-listed list (blank s) (buildLg (length list)) v base (w .fine) load (w .once) y (in-member built (2 ^ buildLg (length list)) y e) in
     at-holds list (length list) y (r .0) (r .1) (r .2))

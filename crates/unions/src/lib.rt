@@ -1,0 +1,52 @@
+// Matrices and unions: count, split, expansion, new union, merge.
+// After src/cpc/union.rs, src/cpc/sketch.rs (build_bit_matrix) and src/cpc/mod.rs (count_bits_set_in_matrix) of the Rust crate datasketches 0.5.0 (Apache-2.0); changed: one lent matrix and a
+// small record for `UnionState`, lent slices for `Vec`, and each call is total and refuses by number.
+use numbers::Flavor;
+use refusals::Refusal;
+
+pub enum CountAnswer {
+    Counted(u32),
+    Refused(Refusal),
+}
+
+// What a split says of a matrix.
+pub struct Summary {
+    pub coupons: u32,
+    pub flavor: Flavor,
+    pub offset: u8,
+    // the first interesting column, 64 if there is none
+    pub column: u8,
+    // how many pairs are listed
+    pub pairs: u32,
+}
+
+pub enum SplitAnswer {
+    Parted(Summary),
+    Refused(Refusal),
+}
+
+pub enum ExpandAnswer {
+    Expanded,
+    Refused(Refusal),
+}
+
+// A union besides its matrix.
+pub struct CpcUnion {
+    // the configured lg_k: the matrix has 2^lg words
+    pub lg: u8,
+    // the present lg_k: rows from 2^present on are zero
+    pub present: u8,
+    pub seed: u64,
+}
+
+// A read sketch besides its window and its pairs.
+pub struct Source {
+    pub lg: u8,
+    pub seed: u64,
+    pub coupons: u32,
+}
+
+pub enum UnionAnswer {
+    Made(CpcUnion),
+    Refused(Refusal),
+}
