@@ -1,0 +1,4 @@
+pub mod Moving
+pub mod Stepping
+pub mod Numbered
+pub mod Laying
