@@ -2,3 +2,4 @@ pub mod Moving
 pub mod Stepping
 pub mod Numbered
 pub mod Laying
+pub mod Listed

@@ -7,6 +7,7 @@ use Rattle.laws.specs.Choose.{choose}
 use Rattle.refusals.specs.Outcome.{Outcome, accepted, refused, andThen, numbersIn}
 use Rattle.refusals.specs.Units.{wordsFor}
 use Rattle.refusals.specs.Told.{told}
+use Rattle.refusals.specs.declared.Refusal.{Refusal}
 use Rattle.refusals.specs.declared.Refusal.the-variants.{WrongLength, NoRoom}
 use Rattle.numbers.specs.Numbers.{flavorAt, offsetAt, baseBitsAt}
 use Rattle.numbers.specs.Calls.{offsetOf, baseBitsOf}
@@ -99,10 +100,14 @@ wordSaid stream i = choose (ltb i (length stream / 4)) (says (wordLine (number s
 unfoldable pub reportSaid : Report → List ℕ → ℕ → Said
 reportSaid r stream i = choose (ltb i 7) (nth (reportHead r) i) (choose (ltb (i - 7) (r .words .0)) (wordSaid stream (i - 7)) ended)
 
+-- a refusal is a single line
+abbrev pub refusedSaid : Refusal → ℕ → Said
+refusedSaid why i = nth (line refusedName (decimal (numbersIn (told why) .0)) ∷ []) i
+
 -- line i of a decision
 abbrev pub lineOf : Decision → List ℕ → ℕ → Said
 lineOf (decision.Written r) stream i = reportSaid r stream i
-lineOf (decision.Refused why) stream i = nth (line refusedName (decimal (numbersIn (told why) .0)) ∷ []) i
+lineOf (decision.Refused why) stream i = refusedSaid why i
 
 -- what is answered, and what the lent output holds afterwards
 pub record Laid : Type 0 where

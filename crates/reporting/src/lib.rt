@@ -1,12 +1,13 @@
 // The small program's decisions: text in, text out, on lent slices.
 ghost use mathlib.Core.Path.{_≡_};
 ghost use Rattle.reporting.specs.Machine.{begun, held, takenOf};
-ghost use Rattle.reporting.specs.Calls.{toldDecision, decidedAs, decideOf};
+ghost use Rattle.reporting.specs.Calls.{toldDecision, decidedAs, decideOf, laid, saidInto, lineOf};
 
 mod deciding;
 mod feeding;
 mod lines;
 mod matching;
+mod saying;
 
 use numbers::Flavor;
 use refusals::Refusal;
@@ -98,5 +99,15 @@ pub fn decide(progress: Progress, pairs: &[u32], stream: &mut [u8]) -> Decision
     match progress {
         Progress::Refused(why) => Decision::Refused(why),
         Progress::Reading(reading) => deciding::decide_read(reading, pairs, stream),
+    }
+}
+
+// Line i of what is written, counted from 0, at the front of the output; the stream is the one that was decided on.
+pub fn line(decision: Decision, stream: &[u8], i: u64, out: &mut [u8]) -> LineAnswer
+    ensures { λ r. ⌜ laid r (now (out .exit)) ≡ saidInto (lineOf decision (now (stream .entry)) i) (now (out .entry)) ⌝ }
+{
+    match decision {
+        Decision::Written(report) => saying::say_report(report, stream, i, out),
+        Decision::Refused(why) => saying::say_refused(why, i, out),
     }
 }
