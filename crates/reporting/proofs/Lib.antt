@@ -3,3 +3,5 @@ pub mod Stepping
 pub mod Numbered
 pub mod Laying
 pub mod Listed
+pub mod Resuming
+pub mod Resumed

@@ -34,7 +34,7 @@ nextDigits digits byte =
 -- a byte held against the letter at a place of a name
 abbrev pub lettered : List ℕ → ℕ → ℕ → Letter
 lettered name place byte =
-    choose (ltb place (length name) && eqb (getD name place 0) byte) (choose (eqb (place + 1) (length name)) letter.Last (letter.Inside (place + 1))) letter.Wrong
+    choose (ltb place (length name) && eqb byte (getD name place 0)) (choose (eqb (place + 1) (length name)) letter.Last (letter.Inside (place + 1))) letter.Wrong
 
 -- what stands before a line's first digit
 abbrev pub nameOf : ℕ → List ℕ

@@ -76,7 +76,7 @@ fn letter_of(name: &[u8], place: u64, byte: u8) -> Letter
     if name.len() <= at {
         return Letter::Wrong;
     }
-    if name[at] != byte {
+    if byte != name[at] {
         return Letter::Wrong;
     }
     if at + 1 == name.len() {
