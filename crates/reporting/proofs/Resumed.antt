@@ -8,7 +8,7 @@ use native.Mathlib.Omega.{arith}
 use lib.Dec.{ltb, leb, eqb}
 use lib.ListN.{length, take, set, length-set}
 use lib.Seq.{take-suc-set}
-use borrow.Author.Tests.{le-ltb, le-leb, lt-leb, ne-eqb, ltb-false}
+use borrow.Author.Tests.{lt-ltb, le-ltb, le-leb, lt-leb, ne-eqb, ltb-false}
 use Rattle.laws.specs.Choose.{choose}
 use Rattle.laws.proofs.Orders.{lt-or-le}
 use Rattle.laws.proofs.Truths.{true-or-false}
@@ -140,3 +140,130 @@ module _ (lg count j : ℕ) (pairs text : List ℕ) (fits : count ≤ length pai
   at-pair line e within =
       ap (λ (n : ℕ). resumed (progress.Reading (record { lines = n; lg = lg; count = count; field = field.Name 0 })) pairs text) e
       ∙ ⊎-elim (λ (l : j < count). before-last l) (λ (h : count ≤ j). at-last (omega arith)) (lt-or-le j count)
+
+or-last : (a b : Bool) → (a || b) ≡ false → b ≡ false
+or-last true b e = absurd (let z : _≡_ {A = ℕ} 0 1 = cc in omega arith)
+or-last false b e = e
+
+-- lg_k's line is whole
+lg-ended : (t : Bool) (lg count n : ℕ) (f : Field) (pairs text : List ℕ) → count ≤ length pairs
+    → resumed (choose t (progress.Refused LgOutside) (nextLine (record { lines = 0; lg = lg; count = count; field = f }) n count)) pairs text
+    ≡ choose t (unasked 1) (countThen (length pairs) n (numberLine pairsName text))
+lg-ended true lg count n f pairs text fits = refl
+lg-ended false lg count n f pairs text fits = resumed-open (record { lines = 1; lg = n; count = count; field = field.Name 0 }) pairs text fits refl
+
+-- the line of the number of pairs is whole
+count-ended : (lg count n : ℕ) (f : Field) (pairs text : List ℕ)
+    → resumed (countRead (length pairs) (record { lines = 1; lg = lg; count = count; field = f }) n) pairs text ≡ countThen (length pairs) lg (found n text)
+count-ended lg count n f pairs text =
+    let r : Reading = record { lines = 1; lg = lg; count = count; field = f } in
+    ⊎-elim
+    (λ (e : (ltb 4096 n || ltb (length pairs) n) ≡ true).
+    ap (λ (t : Bool). resumed (choose t (progress.Refused NoRoom) (nextLine r lg n)) pairs text) e
+    ∙ sym (ap (λ (t : Bool). choose t (unasked 5) (pairLines lg n 0 text)) e))
+    (λ (e : (ltb 4096 n || ltb (length pairs) n) ≡ false).
+    let fits : n ≤ length pairs = ltb-false (length pairs) n (or-last (ltb 4096 n) (ltb (length pairs) n) e) in
+    let whole : n - 0 ≡ n = omega arith in
+    ap (λ (t : Bool). resumed (choose t (progress.Refused NoRoom) (nextLine r lg n)) pairs text) e
+    ∙ at-pair lg n 0 pairs text fits 2 refl (omega arith)
+    ∙ with-none (pairLines lg (n - 0) 0 text)
+    ∙ ap (λ (m : ℕ). pairLines lg m 0 text) whole
+    ∙ sym (ap (λ (t : Bool). choose t (unasked 5) (pairLines lg n 0 text)) e))
+    (true-or-false (ltb 4096 n || ltb (length pairs) n))
+
+-- a pair's line is whole
+module _ (i lg count n : ℕ) (f : Field) (pairs text : List ℕ) (fits : count ≤ length pairs) (below : i < count) where
+  pair-read : lineRead (record { lines = suc (suc i); lg = lg; count = count; field = f }) n pairs
+      ≡ held (nextLine (record { lines = suc (suc i); lg = lg; count = count; field = f }) lg count) (set pairs i n)
+  unfolding lineRead
+  pair-read =
+      let r : Reading = record { lines = suc (suc i); lg = lg; count = count; field = f } in
+      let last : ℕ → Held = λ (j : ℕ). held (nextLine r lg count) (set pairs j n) in
+      let less′ : suc (suc i) - 2 ≡ i = omega arith in
+      ap (λ (t : Bool). choose t (held (lgRead r n) pairs) (choose (eqb (suc (suc i)) 1) (held (countRead (length pairs) r n) pairs) (last (suc (suc i) - 2)))) (ne-eqb (suc (suc i)) 0 (λ (e : suc (suc i) ≡ 0). omega arith))
+      ∙ ap (λ (t : Bool). choose t (held (countRead (length pairs) r n) pairs) (last (suc (suc i) - 2))) (ne-eqb (suc (suc i)) 1 (λ (e : suc (suc i) ≡ 1). omega arith))
+      ∙ ap last less′
+
+  pair-then : lineThen pairs (record { lines = suc (suc i); lg = lg; count = count; field = f }) (found n text)
+      ≡ withPairs (take i pairs) (withPair n (pairLines lg (count - suc i) (suc i) text))
+  pair-then =
+      let first : Asked = lgThen (length pairs) (found n text) in
+      let second : Asked = countThen (length pairs) lg (found n text) in
+      let third : ℕ → ℕ → Asked = λ (j m : ℕ). withPairs (take j pairs) (withPair n (pairLines lg (count - m) m text)) in
+      let less′ : suc (suc i) - 2 ≡ i = omega arith in
+      let one-less : suc (suc i) - 1 ≡ suc i = omega arith in
+      ap (λ (t : Bool). choose t first (choose (eqb (suc (suc i)) 1) second (third (suc (suc i) - 2) (suc (suc i) - 1)))) (ne-eqb (suc (suc i)) 0 (λ (e : suc (suc i) ≡ 0). omega arith))
+      ∙ ap (λ (t : Bool). choose t second (third (suc (suc i) - 2) (suc (suc i) - 1))) (ne-eqb (suc (suc i)) 1 (λ (e : suc (suc i) ≡ 1). omega arith))
+      ∙ ap₂ third less′ one-less
+
+  pair-ended : resumed (nextLine (record { lines = suc (suc i); lg = lg; count = count; field = f }) lg count) (set pairs i n) text
+      ≡ withPairs (take i pairs) (withPair n (pairLines lg (count - suc i) (suc i) text))
+  pair-ended =
+      let fits′ : count ≤ length (set pairs i n) = simp length-set fits in
+      at-pair lg count (suc i) (set pairs i n) text fits′ (suc (suc i) + 1) (omega arith) (omega arith)
+      ∙ ap (λ (front : List ℕ). withPairs front (pairLines lg (count - suc i) (suc i) text)) (take-suc-set pairs i n (omega arith))
+      ∙ sym (with-pair (take i pairs) n (pairLines lg (count - suc i) (suc i) text))
+
+  pub pair-line-ended : resumed (lineRead (record { lines = suc (suc i); lg = lg; count = count; field = f }) n pairs .progress)
+      (lineRead (record { lines = suc (suc i); lg = lg; count = count; field = f }) n pairs .pairs) text
+      ≡ lineThen pairs (record { lines = suc (suc i); lg = lg; count = count; field = f }) (found n text)
+  pair-line-ended = ap (λ (h : Held). resumed (h .progress) (h .pairs) text) pair-read ∙ pair-ended ∙ sym pair-then
+
+line-ended : (lines lg count n : ℕ) (f : Field) (pairs text : List ℕ) → count ≤ length pairs → done (record { lines = lines; lg = lg; count = count; field = f }) ≡ false
+    → resumed (lineRead (record { lines = lines; lg = lg; count = count; field = f }) n pairs .progress)
+    (lineRead (record { lines = lines; lg = lg; count = count; field = f }) n pairs .pairs) text
+    ≡ lineThen pairs (record { lines = lines; lg = lg; count = count; field = f }) (found n text)
+unfolding lineRead
+line-ended zero lg count n f pairs text fits e = lg-ended (ltb n 4 || ltb 12 n) lg count n f pairs text fits
+line-ended (suc zero) lg count n f pairs text fits e = count-ended lg count n f pairs text
+line-ended (suc (suc i)) lg count n f pairs text fits e =
+    let l = undone (suc (suc i)) count e (omega arith) in
+    pair-line-ended i lg count n f pairs text fits (omega arith)
+
+-- where a byte leaves the machine
+move-ended : (r : Reading) (m : Move) (pairs text : List ℕ) → r .count ≤ length pairs → done r ≡ false
+    → resumed (moved r pairs m .progress) (moved r pairs m .pairs) text ≡ lineThen pairs r (afterMove (r .lines) m text)
+move-ended r (move.To f) pairs text fits e = resumed-open (record { lines = r .lines; lg = r .lg; count = r .count; field = f }) pairs text fits e
+move-ended r (move.Ends n) pairs text fits e = line-ended (r .lines) (r .lg) (r .count) n (r .field) pairs text fits e
+move-ended r move.Wrong pairs text fits e = sym (wrong-line pairs r)
+
+reading-step : (r : Reading) (byte : ℕ) (pairs text : List ℕ)
+    → resumed (readingStep r byte pairs .progress) (readingStep r byte pairs .pairs) text ≡ resumed (progress.Reading r) pairs (byte ∷ text)
+unfolding readingStep
+reading-step r byte pairs text =
+    let after′ : Held → Asked = λ (h : Held). resumed (h .progress) (h .pairs) text in
+    let m = moveOf (r .lines) (r .field) byte in
+    let inside : Held = choose (done r) (held (progress.Refused NotLawful) pairs) (moved r pairs m) in
+    ⊎-elim
+    (λ (l : length pairs < r .count).
+    ap (λ (t : Bool). after′ (choose t (held (progress.Refused NoRoom) pairs) inside)) (lt-ltb (length pairs) (r .count) l)
+    ∙ sym (ap (λ (t : Bool). choose t (unasked 5) (choose (done r) (withPairs (take (r .count) pairs) (noMore (r .lg) (byte ∷ text))) (lineThen pairs r (fieldRest (r .lines) (r .field) (byte ∷ text))))) (lt-ltb (length pairs) (r .count) l)))
+    (λ (fits : r .count ≤ length pairs).
+    ap (λ (t : Bool). after′ (choose t (held (progress.Refused NoRoom) pairs) inside)) (le-ltb (length pairs) (r .count) fits)
+    ∙ ⊎-elim
+    (λ (e : done r ≡ true). ap (λ (t : Bool). after′ (choose t (held (progress.Refused NotLawful) pairs) (moved r pairs m))) e ∙ sym (resumed-done r pairs (byte ∷ text) fits e))
+    (λ (e : done r ≡ false).
+    ap (λ (t : Bool). after′ (choose t (held (progress.Refused NotLawful) pairs) (moved r pairs m))) e
+    ∙ move-ended r m pairs text fits e
+    ∙ ap (lineThen pairs r) (move-rest (r .lines) (r .field) byte text)
+    ∙ sym (resumed-open r pairs (byte ∷ text) fits e))
+    (true-or-false (done r)))
+    (lt-or-le (length pairs) (r .count))
+
+-- one byte more changes nothing of what is asked for
+pub step-resumed : (p : Progress) (byte : ℕ) (pairs text : List ℕ)
+    → resumed (stepOf p byte pairs .progress) (stepOf p byte pairs .pairs) text ≡ resumed p pairs (byte ∷ text)
+step-resumed (progress.Reading r) byte pairs text = reading-step r byte pairs text
+step-resumed (progress.Refused why) byte pairs text = refl
+
+-- a part changes nothing of it
+pub part-resumed : (p : Progress) (part pairs text : List ℕ)
+    → resumed (takenOf p part pairs .progress) (takenOf p part pairs .pairs) text ≡ resumed p pairs (part ++ text)
+unfolding takenOf
+part-resumed p [] pairs text = refl
+part-resumed p (byte ∷ part) pairs text =
+    part-resumed (stepOf p byte pairs .progress) part (stepOf p byte pairs .pairs) text ∙ step-resumed p byte pairs (part ++ text)
+
+-- before the first byte it is what the definition says of the whole text
+pub begin-resumed : (pairs text : List ℕ) → resumed begun pairs text ≡ askedBy (length pairs) text
+begin-resumed pairs text = resumed-open (record { lines = 0; lg = 0; count = 0; field = field.Name 0 }) pairs text (omega arith) refl
