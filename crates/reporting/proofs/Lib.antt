@@ -5,3 +5,5 @@ pub mod Laying
 pub mod Listed
 pub mod Resuming
 pub mod Resumed
+pub mod Answered
+pub mod Whole

@@ -75,7 +75,7 @@ numbers-told lg n offset bits words x e p =
 -- what a writer that accepts tells
 told-last : (a b : Bool) (check : Outcome) (d : Bool) (judge : Outcome) (f : Bool) (v w : List ℕ)
     → accepted v ≡ choose a (refused 1 0) (choose b (refused 2 0) (andThen check (choose d (refused 4 0) (andThen judge (choose f (refused 5 0) (accepted w))))))
-    → v ≡ w
+    → (a ≡ false) × (f ≡ false) × (v ≡ w)
 told-last true b check d judge f v w e = absurd (not-refused v 1 0 e)
 told-last false true check d judge f v w e = absurd (not-refused v 2 0 e)
 told-last false false (refused m p) d judge f v w e = absurd (not-refused v m p e)
@@ -84,10 +84,12 @@ told-last false false (accepted u) true judge f v w e = absurd (not-refused v 4 
 told-last false false (accepted u) false (refused m p) f v w e = absurd (not-refused v m p e)
 told-last false false (accepted u) false (stopped m p q) f v w e = absurd (not-stopped v m p q e)
 told-last false false (accepted u) false (accepted t) true v w e = absurd (not-refused v 5 0 e)
-told-last false false (accepted u) false (accepted t) false v w e = cc
+told-last false false (accepted u) false (accepted t) false v w e = let same : v ≡ w = cc in (refl, refl, same)
 
+-- lg_k is inside, the stream has room, and the values are the bits and the words
 pub write-told : (book : List ℕ) (lg : ℕ) (pairs stream v : List ℕ) → accepted v ≡ writePairsOf book lg pairs stream
-    → v ≡ pairsBits book (2 ^ lg) pairs ∷ wordsFor (pairsBits book (2 ^ lg) pairs) ∷ []
+    → (outside lg ≡ false) × (ltb (length stream) (4 * wordsFor (pairsBits book (2 ^ lg) pairs)) ≡ false)
+    × (v ≡ pairsBits book (2 ^ lg) pairs ∷ wordsFor (pairsBits book (2 ^ lg) pairs) ∷ [])
 unfolding writePairsOf
 write-told book lg pairs stream v e =
     told-last (outside lg) (not (eqb (length book) 65)) (checkOf book) (ltb (2 ^ 28) (length pairs)) (pairsJudged (2 ^ lg) pairs)
@@ -111,7 +113,8 @@ module _ (book : List ℕ) (lg : ℕ) (pairs stream after : List ℕ) (answer : 
   unfolding writtenOf
   written-told bits words x e p =
       let t : accepted (bits .0 ∷ words .0 ∷ []) ≡ writePairsOf pairBook lg pairs stream = sym (ap toldWrite e) ∙ practiced in
-      let v = write-told pairBook lg pairs stream (bits .0 ∷ words .0 ∷ []) t in
+      let v : bits .0 ∷ words .0 ∷ [] ≡ pairsBits pairBook (2 ^ lg) pairs ∷ wordsFor (pairsBits pairBook (2 ^ lg) pairs) ∷ [] =
+      write-told pairBook lg pairs stream (bits .0 ∷ words .0 ∷ []) t .2 in
       let b : bits .0 ≡ pairsBits pairBook (2 ^ lg) pairs = cc in
       let w : words .0 ≡ wordsFor (pairsBits pairBook (2 ^ lg) pairs) = cc in
       ap₂ decidedAs (p ∙ ap₂ (numbersOf lg (length pairs)) b w ∙ ap (λ (o : Outcome). andThen o (numbersOf lg (length pairs) (pairsBits pairBook (2 ^ lg) pairs) (wordsFor (pairsBits pairBook (2 ^ lg) pairs)))) t) left

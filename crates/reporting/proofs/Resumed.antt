@@ -55,14 +55,14 @@ with-pair front n (asked lg pairs) = ap (asked lg) (sym (append-assoc front (n �
 with-pair front n (unasked number) = refl
 
 -- inside the text
-resumed-open : (r : Reading) (pairs text : List ℕ) → r .count ≤ length pairs → done r ≡ false
+pub resumed-open : (r : Reading) (pairs text : List ℕ) → r .count ≤ length pairs → done r ≡ false
     → resumed (progress.Reading r) pairs text ≡ lineThen pairs r (fieldRest (r .lines) (r .field) text)
 resumed-open r pairs text fits undone′ =
     ap (λ (t : Bool). choose t (unasked 5) (choose (done r) (withPairs (take (r .count) pairs) (noMore (r .lg) text)) (lineThen pairs r (fieldRest (r .lines) (r .field) text))))
     (le-ltb (length pairs) (r .count) fits)
     ∙ ap (λ (t : Bool). choose t (withPairs (take (r .count) pairs) (noMore (r .lg) text)) (lineThen pairs r (fieldRest (r .lines) (r .field) text))) undone′
 
-resumed-done : (r : Reading) (pairs text : List ℕ) → r .count ≤ length pairs → done r ≡ true
+pub resumed-done : (r : Reading) (pairs text : List ℕ) → r .count ≤ length pairs → done r ≡ true
     → resumed (progress.Reading r) pairs text ≡ withPairs (take (r .count) pairs) (noMore (r .lg) text)
 resumed-done r pairs text fits done′ =
     ap (λ (t : Bool). choose t (unasked 5) (choose (done r) (withPairs (take (r .count) pairs) (noMore (r .lg) text)) (lineThen pairs r (fieldRest (r .lines) (r .field) text))))
