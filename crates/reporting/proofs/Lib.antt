@@ -7,3 +7,5 @@ pub mod Resuming
 pub mod Resumed
 pub mod Answered
 pub mod Whole
+pub mod Only
+pub mod Example
