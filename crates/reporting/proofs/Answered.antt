@@ -18,7 +18,7 @@ use Rattle.refusals.specs.declared.Refusal.{Refusal}
 use Rattle.refusals.specs.declared.Refusal.the-variants.{NoRoom, NotLawful}
 use Rattle.refusals.proofs.Only.{never-accepted}
 use Rattle.numbers.specs.Numbers.{flavorAt, offsetAt, baseBitsAt}
-use Rattle.numbers.specs.Calls.{outside, offsetOf, baseBitsOf}
+use Rattle.numbers.specs.Calls.{offsetOf, baseBitsOf}
 use Rattle.numbers.specs.Told.{flavorNumber}
 use Rattle.numbers.specs.declared.Flavor.{Flavor}
 use Rattle.numbers.proofs.Only.{flavor-number-once}
@@ -29,9 +29,9 @@ use Rattle.streams.specs.Calls.{writePairsOf, pairsWritten, wordsInto}
 use Rattle.compression.proofs.WrittenCalls.{base-bits-is}
 use Rattle.reporting.specs.Lines.{decimal, line, lgName, pairsName}
 use Rattle.reporting.specs.Asked.{Asked, asked, unasked, noMore}
-use Rattle.reporting.specs.Report.{flavorName, offsetName, baseBitsName, bitsName, wordsName, flavorWord, headLines, wordLine, wordLines, reportLines, refusedLines, decided, linesOf, answered}
+use Rattle.reporting.specs.Report.{flavorName, offsetName, baseBitsName, bitsName, wordsName, flavorWord, headLines, wordLine, wordLines, reportLines, refusedLines, linesOf, answered}
 use Rattle.reporting.specs.Machine.{done}
-use Rattle.reporting.specs.Calls.{toldDecision, Decided, decidedAs, numbersOf, writtenOf, readDecided, decideOf, Said, says, ended, nth, reportHead, wordSaid, reportSaid, lineOf}
+use Rattle.reporting.specs.Calls.{toldDecision, Decided, decidedAs, writtenOf, readDecided, decideOf, Said, says, ended, nth, reportHead, wordSaid, reportSaid, lineOf}
 use Rattle.reporting.specs.declared.Reading.{Reading}
 use Rattle.reporting.specs.declared.Progress.{Progress}
 use Rattle.reporting.specs.declared.Progress.the-variants as progress

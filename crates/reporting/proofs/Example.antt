@@ -3,7 +3,6 @@ use mathlib.Core.Path.{_≡_, refl, ap, ap₂, _∙_}
 use mathlib.Core.Bool.{Bool}
 use mathlib.Core.List.{List, [], _∷_, _++_}
 use Prim.Native.Nat.{ℕ, _≤_}
-use lib.Dec.{ltb}
 use lib.ListN.{length}
 use borrow.Author.Tests.{le-ltb}
 use Rattle.laws.specs.Choose.{choose}
@@ -11,15 +10,14 @@ use Rattle.laws.specs.Lists.{listOf}
 use Rattle.refusals.specs.Outcome.{Outcome, accepted, refused, andThen}
 use Rattle.numbers.specs.Numbers.{flavorAt, offsetAt, baseBitsAt, floorLog2, halvings}
 use Rattle.numbers.specs.Calls.{offsetOf}
-use Rattle.books.specs.Calls.{checkOf}
 use Rattle.practice.specs.Practice.{pairEntry, pairBook}
 use Rattle.practice.proofs.Passes.{pair-passes}
 use Rattle.pair_lists.specs.Lists.{judgedFrom}
 use Rattle.streams.specs.Codes.{total, pack}
 use Rattle.streams.specs.Written.{codesFrom}
 use Rattle.streams.specs.Calls.{writePairsOf}
-use Rattle.reporting.specs.Lines.{newline, equals, lgName, pairsName, digitsWithin, line}
-use Rattle.reporting.specs.Asked.{digitsTo, after, Asked, asked, unasked, pairLines, askedBy}
+use Rattle.reporting.specs.Lines.{lgName, pairsName, digitsWithin, line}
+use Rattle.reporting.specs.Asked.{digitsTo, after, asked, unasked, pairLines, askedBy}
 use Rattle.reporting.specs.Report.{flavorName, offsetName, baseBitsName, bitsName, wordsName, headLines, wordLines, reportLines, linesOf, answered, reportOf}
 
 -- lg_k=4, pairs=3, p0=5, p1=70, p2=71

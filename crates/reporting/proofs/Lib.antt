@@ -7,5 +7,6 @@ pub mod Resuming
 pub mod Resumed
 pub mod Answered
 pub mod Whole
+pub mod Short
 pub mod Only
 pub mod Example

@@ -7,7 +7,7 @@ use Prim.Native.Nat.{ℕ, zero, suc, _+_, _-_, _*_, _/_, _%_, _^_, _≤_, _<_}
 use native.Mathlib.Nat.{div-one, mod-mod}
 use native.Mathlib.Omega.{arith}
 use lib.Dec.{ltb}
-use lib.ListN.{length, drop, length-append, length-drop}
+use lib.ListN.{length, length-append}
 use borrow.Author.Tests.{lt-ltb, le-ltb}
 use Rattle.laws.specs.Choose.{choose}
 use Rattle.laws.proofs.Orders.{lt-or-le}
@@ -15,7 +15,7 @@ use Rattle.streams.specs.Stream.{number, bitsAt, bytesOf}
 use Rattle.streams.proofs.Stream.{same-field, append-same, length-bytesOf, number-bytesOf}
 use Rattle.reporting.specs.Lines.{decimal, line}
 use Rattle.reporting.specs.Report.{wordName, wordLine, wordLines}
-use Rattle.reporting.specs.Calls.{Said, says, ended, cut, nth, wordSaid}
+use Rattle.reporting.specs.Calls.{says, ended, cut, nth, wordSaid}
 
 pub nth-second : (text : List ℕ) (i : ℕ) → 0 < i → ended ≡ nth (text ∷ []) i
 nth-second text zero l = absurd (omega arith)

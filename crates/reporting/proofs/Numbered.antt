@@ -26,7 +26,7 @@ use Rattle.compression.specs.Told.{toldWrite}
 use Rattle.compression.specs.declared.WriteAnswer.{WriteAnswer}
 use Rattle.compression.specs.declared.WriteAnswer.the-variants as write
 use Rattle.compression.proofs.WrittenCalls.{judged-refused}
-use Rattle.reporting.specs.Calls.{Decided, decidedAs, restOf, numbersOf, writtenOf}
+use Rattle.reporting.specs.Calls.{decidedAs, restOf, numbersOf, writtenOf}
 
 pub not-refused : (values : List ℕ) (number place : ℕ) → accepted values ≡ refused number place → ⊥
 not-refused values number place e = let z : _≡_ {A = ℕ} 0 1 = cc in omega arith

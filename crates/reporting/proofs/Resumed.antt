@@ -1,5 +1,5 @@
 -- What a text asks for, taken up again at any byte: a part that was fed leaves the definition's answer as it is. Assumes nothing.
-use mathlib.Core.Path.{_≡_, refl, sym, ap, ap₂, subst, _∙_}
+use mathlib.Core.Path.{_≡_, refl, sym, ap, ap₂, _∙_}
 use mathlib.Core.Bool.{Bool, true, false, _&&_, _||_}
 use mathlib.Core.List.{List, [], _∷_, _++_, append-assoc}
 use mathlib.Core.Logic.{⊎-elim}
@@ -16,8 +16,8 @@ use Rattle.refusals.specs.Outcome.{numbersIn}
 use Rattle.refusals.specs.Told.{told}
 use Rattle.refusals.specs.declared.Refusal.the-variants.{LgOutside, NoRoom, NotLawful}
 use Rattle.reporting.specs.Lines.{newline, equals, lgName, pairsName, pairName}
-use Rattle.reporting.specs.Asked.{Found, found, wrong, digitsTo, decimalTo, after, numberLine, indexed, pairLine, Asked, asked, unasked, withPair, noMore, pairThen, pairLines, countThen, lgThen, askedBy}
-use Rattle.reporting.specs.Machine.{none, nameOf, afterName, moveOf, done, Held, held, inField, nextLine, lgRead, countRead, lineRead, moved, readingStep, stepOf, takenOf, begun}
+use Rattle.reporting.specs.Asked.{Found, found, wrong, decimalTo, after, numberLine, indexed, pairLine, Asked, asked, unasked, withPair, noMore, pairThen, pairLines, countThen, lgThen, askedBy}
+use Rattle.reporting.specs.Machine.{none, nameOf, afterName, moveOf, done, Held, held, nextLine, lgRead, countRead, lineRead, moved, readingStep, stepOf, takenOf, begun}
 use Rattle.reporting.specs.declared.Field.{Field}
 use Rattle.reporting.specs.declared.Field.the-variants as field
 use Rattle.reporting.specs.declared.Reading.{Reading}

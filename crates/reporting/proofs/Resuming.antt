@@ -1,28 +1,22 @@
 -- The definition's reading of a text, taken up again inside it, and one byte more of it. Assumes nothing.
-use mathlib.Core.Path.{_≡_, refl, sym, ap, ap₂, subst, _∙_}
-use mathlib.Core.Bool.{Bool, true, false, _&&_, _||_}
-use mathlib.Core.List.{List, [], _∷_, _++_, append-assoc, append-nil}
+use mathlib.Core.Path.{_≡_, refl, sym, ap, _∙_}
+use mathlib.Core.Bool.{Bool, true, false, _&&_}
+use mathlib.Core.List.{List, [], _∷_}
 use mathlib.Core.Logic.{⊎-elim}
-use Prim.Native.Nat.{ℕ, zero, suc, _+_, _-_, _*_, _≤_, _<_}
+use Prim.Native.Nat.{ℕ, suc, _+_, _-_, _*_, _≤_, _<_}
 use native.Mathlib.Numerals.{add-one}
 use native.Mathlib.Omega.{arith}
 use lib.Dec.{ltb, leb, eqb}
-use lib.ListN.{length, getD, take, drop, set, length-set, drop-of-length-le}
-use lib.Seq.{drop-cons, take-suc-set}
-use borrow.Author.Tests.{lt-ltb, le-ltb, le-leb, lt-leb, eq-eqb, ne-eqb, ltb-false}
+use lib.ListN.{length, getD, drop, drop-of-length-le}
+use lib.Seq.{drop-cons}
+use borrow.Author.Tests.{lt-ltb, le-ltb, eq-eqb, ne-eqb}
 use Rattle.laws.specs.Choose.{choose}
 use Rattle.laws.proofs.Orders.{lt-or-le, same-or-not}
-use Rattle.refusals.specs.Outcome.{numbersIn}
-use Rattle.refusals.specs.Told.{told}
-use Rattle.reporting.specs.Lines.{newline, equals, lgName, pairsName, pairName}
-use Rattle.reporting.specs.Asked.{Found, found, wrong, digitFollows, digitsTo, decimalTo, after, numberLine, indexed, pairLine, Asked, asked, unasked, withPair, noMore, pairThen, pairLines, countThen, lgThen, askedBy}
-use Rattle.reporting.specs.Machine.{none, nextDigits, lettered, nameOf, named, afterName, letterMove, digitsMove, indexMove, numberMove, moveOf, done, Held, held, inField, nextLine, lgRead, countRead, lineRead, moved, readingStep, stepOf, takenOf, begun}
-use Rattle.reporting.specs.declared.Digits.{Digits}
+use Rattle.reporting.specs.Lines.{newline, equals}
+use Rattle.reporting.specs.Asked.{Found, found, wrong, digitFollows, digitsTo, decimalTo, after}
+use Rattle.reporting.specs.Machine.{none, nameOf, named, afterName, letterMove, digitsMove, moveOf, begun}
 use Rattle.reporting.specs.declared.Field.{Field}
 use Rattle.reporting.specs.declared.Field.the-variants as field
-use Rattle.reporting.specs.declared.Reading.{Reading}
-use Rattle.reporting.specs.declared.Progress.{Progress}
-use Rattle.reporting.specs.declared.Progress.the-variants as progress
 use Rattle.reporting.specs.declared.matching.Move.{Move}
 use Rattle.reporting.specs.declared.matching.Move.the-variants as move
 use Rattle.reporting.specs.declared.matching.Longer.the-variants as longer

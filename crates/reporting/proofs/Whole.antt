@@ -3,10 +3,11 @@ use mathlib.Core.Path.{_≡_, refl, ap, _∙_}
 use mathlib.Core.List.{List, [], _∷_, _++_}
 use Prim.Native.Nat.{ℕ}
 use lib.ListN.{length}
-use Rattle.reporting.specs.Asked.{Asked, askedBy}
+use Rattle.reporting.specs.Asked.{Asked}
 use Rattle.reporting.specs.Report.{answered, reportOf}
 use Rattle.reporting.specs.Machine.{Held, held, takenOf, begun}
-use Rattle.reporting.specs.Calls.{toldDecision, decidedAs, decideOf, nth, lineOf}
+use Rattle.reporting.specs.Calls.{toldDecision, decidedAs, decideOf, Said, nth, lineOf, laid, saidInto}
+use Rattle.reporting.specs.declared.LineAnswer.{LineAnswer}
 use Rattle.reporting.specs.declared.Progress.{Progress}
 use Rattle.reporting.specs.declared.Decision.{Decision}
 use Rattle.reporting.proofs.Resumed.{resumed, part-resumed, begin-resumed}
@@ -37,3 +38,10 @@ pub whole : (parts : List (List ℕ)) (pairs stream : List ℕ) (d : Decision) (
 whole parts pairs stream d after e i =
     whole-lines (partsTaken begun parts pairs .progress) (partsTaken begun parts pairs .pairs) stream d after e i
     ∙ ap (λ (a : Asked). nth (answered stream a) i) (parts-resumed begun parts pairs ∙ begin-resumed pairs (joined parts))
+
+-- The same of the call `line`: what it answers, and what the lent output holds afterwards.
+pub written : (parts : List (List ℕ)) (pairs stream : List ℕ) (d : Decision) (after : List ℕ)
+    → decidedAs (toldDecision d) after ≡ decideOf (partsTaken begun parts pairs .progress) (partsTaken begun parts pairs .pairs) stream
+    → (i : ℕ) (out o : List ℕ) (a : LineAnswer) → laid a o ≡ saidInto (lineOf d after i) out
+    → laid a o ≡ saidInto (nth (reportOf (length pairs) stream (joined parts)) i) out
+written parts pairs stream d after e i out o a l = l ∙ ap (λ (s : Said). saidInto s out) (whole parts pairs stream d after e i)

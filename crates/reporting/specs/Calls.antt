@@ -1,7 +1,7 @@
 -- What deciding and each line answer, and what they leave. Assumes nothing.
 use Prim.Native.Nat.{ℕ, zero, suc, _-_, _/_, _^_}
 use mathlib.Core.List.{List, [], _∷_, _++_}
-use lib.Dec.{ltb, eqb}
+use lib.Dec.{ltb}
 use lib.ListN.{length, take, drop}
 use Rattle.laws.specs.Choose.{choose}
 use Rattle.refusals.specs.Outcome.{Outcome, accepted, refused, andThen, numbersIn}

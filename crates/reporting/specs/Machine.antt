@@ -1,11 +1,10 @@
 -- A text read byte by byte: the machine that the calls are. Assumes nothing.
-use Prim.Native.Nat.{ℕ, zero, suc, _+_, _-_, _*_}
+use Prim.Native.Nat.{ℕ, _+_, _-_, _*_}
 use mathlib.Core.Bool.{Bool, true, false, _&&_, _||_}
 use mathlib.Core.List.{List, [], _∷_, _++_}
 use lib.Dec.{ltb, leb, eqb}
 use lib.ListN.{length, getD, set}
 use Rattle.laws.specs.Choose.{choose}
-use Rattle.refusals.specs.declared.Refusal.{Refusal}
 use Rattle.refusals.specs.declared.Refusal.the-variants.{LgOutside, NoRoom, NotLawful}
 use Rattle.reporting.specs.Lines.{newline, equals, lgName, pairsName, pairName}
 use Rattle.reporting.specs.Asked.{digitFollows}

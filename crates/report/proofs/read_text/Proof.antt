@@ -1,6 +1,6 @@
 -- `report::read_text` meets its contract. Assumes nothing.
 use borrow.Author.Needs.{needs}
-use mathlib.Core.Path.{_≡_, refl, _∙_}
+use mathlib.Core.Path.{_≡_}
 use lib.ListN.{length}
 use Rattle.report.proofs.read_text.Statement.{statement}
 use Rattle.report.proofs.read_text.Tie as tie

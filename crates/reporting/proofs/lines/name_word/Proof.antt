@@ -5,7 +5,7 @@ use mathlib.Core.List.{List, [], _∷_}
 use Prim.Native.Nat.{ℕ, _≤_}
 use native.Mathlib.Omega.{arith}
 use denote.Ref.{now}
-use lib.ListN.{length, take}
+use lib.ListN.{length}
 use Rattle.reporting.proofs.Stepping.{front-length}
 use Rattle.reporting.proofs.Laying.{printed, name-put}
 use borrow.Author.Needs.{needs}

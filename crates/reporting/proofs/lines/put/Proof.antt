@@ -6,7 +6,7 @@ use native.Mathlib.Omega.{arith}
 use borrow.Author.Needs.{needs}
 use denote.Ref.{now}
 use lib.ListN.{length}
-use lib.Seq.{paste, paste-zero, length-paste}
+use lib.Seq.{paste, paste-zero}
 use Rattle.reporting.proofs.Laying.{paste-turn}
 use Rattle.reporting.proofs.lines.put.Statement.{statement}
 use Rattle.reporting.proofs.lines.put.Tie as tie

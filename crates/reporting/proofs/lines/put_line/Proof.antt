@@ -1,7 +1,6 @@
 -- `reporting::lines::put_line` meets its contract. Assumes nothing.
 use denote.Ref.{now}
 use Rattle.reporting.proofs.Laying.{no-room, room}
-use native.Mathlib.Omega.{arith}
 use borrow.Author.Needs.{needs}
 use Rattle.reporting.proofs.lines.put_line.Statement.{statement}
 use Rattle.reporting.proofs.lines.put_line.Tie as tie

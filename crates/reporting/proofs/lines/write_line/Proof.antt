@@ -1,6 +1,4 @@
 -- `reporting::lines::write_line` meets its contract. Assumes nothing.
-use native.Mathlib.Omega.{arith}
-use mathlib.Core.Path.{_∙_}
 use borrow.Author.Needs.{needs}
 use denote.Ref.{now}
 use Rattle.reporting.proofs.Laying.{line-put}

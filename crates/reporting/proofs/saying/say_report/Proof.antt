@@ -1,5 +1,4 @@
 -- `reporting::saying::say_report` meets its contract. Assumes nothing.
-use mathlib.Core.Path.{_∙_}
 use borrow.Author.Tests.{lt-ltb, le-ltb}
 use Rattle.reporting.specs.Calls.{reportSaid}
 use borrow.Author.Needs.{needs}
