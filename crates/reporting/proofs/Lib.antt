@@ -1,0 +1,12 @@
+pub mod Moving
+pub mod Stepping
+pub mod Numbered
+pub mod Laying
+pub mod Listed
+pub mod Resuming
+pub mod Resumed
+pub mod Answered
+pub mod Whole
+pub mod Short
+pub mod Only
+pub mod Example

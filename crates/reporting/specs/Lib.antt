@@ -1,0 +1,5 @@
+pub mod Lines
+pub mod Asked
+pub mod Report
+pub mod Machine
+pub mod Calls
