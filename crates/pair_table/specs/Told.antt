@@ -10,6 +10,8 @@ use Rattle.pair_table.specs.declared.ChangeAnswer.{ChangeAnswer}
 use Rattle.pair_table.specs.declared.ChangeAnswer.the-variants as change
 use Rattle.pair_table.specs.declared.ListAnswer.{ListAnswer}
 use Rattle.pair_table.specs.declared.ListAnswer.the-variants as list
+use Rattle.pair_table.specs.declared.lawfulness.Verdict.{Verdict}
+use Rattle.pair_table.specs.declared.lawfulness.Verdict.the-variants as verdict
 
 abbrev pub toldTable : TableAnswer → Outcome
 toldTable (table.Made t) = recordOf (t .lg) (t .valid) (t .items)
@@ -24,3 +26,8 @@ toldChange (change.Refused why) = told why
 abbrev pub toldList : ListAnswer → Outcome
 toldList (list.Listed n) = accepted (n ∷ [])
 toldList (list.Refused why) = told why
+
+-- a judgement that passes has no values
+abbrev pub toldVerdict : Verdict → Outcome
+toldVerdict verdict.Passes = accepted []
+toldVerdict (verdict.Refused why) = told why
