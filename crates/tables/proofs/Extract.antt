@@ -17,19 +17,19 @@ use Rattle.tables.proofs.Laws.{items-full, items-empty, at-or-below}
 use Rattle.tables.proofs.Refilled.{total-mono}
 
 lows-low : (s : List ℕ) (v k : ℕ) → getD s k 0 < 2 ^ (v - 1) → lows s v (k + 1) ≡ lows s v k ++ (getD s k 0 ∷ [])
-unfolding lows high
+unfolding lows
 lows-low s v k h = rw (add-one k) (simp (lt-leb (2 ^ (v - 1)) (getD s k 0) h))
 
 lows-high : (s : List ℕ) (v k : ℕ) → 2 ^ (v - 1) ≤ getD s k 0 → lows s v (k + 1) ≡ lows s v k
-unfolding lows high
+unfolding lows
 lows-high s v k h = rw (add-one k) (simp (le-leb (2 ^ (v - 1)) (getD s k 0) h))
 
 highs-low : (s : List ℕ) (v k : ℕ) → getD s k 0 < 2 ^ (v - 1) → highs s v (k + 1) ≡ highs s v k
-unfolding highs high
+unfolding highs
 highs-low s v k h = rw (add-one k) (simp (lt-leb (2 ^ (v - 1)) (getD s k 0) h))
 
 highs-high : (s : List ℕ) (v k : ℕ) → 2 ^ (v - 1) ≤ getD s k 0 → highs s v (k + 1) ≡ getD s k 0 ∷ highs s v k
-unfolding highs high
+unfolding highs
 highs-high s v k h = rw (add-one k) (simp (le-leb (2 ^ (v - 1)) (getD s k 0) h))
 
 drop-set-at : (l : List ℕ) (j x : ℕ) → j < length l → drop j (set l j x) ≡ x ∷ drop (j + 1) l

@@ -5,3 +5,4 @@ pub mod Refilled
 pub mod Finger
 pub mod Extract
 pub mod Walk
+pub mod Bridges
