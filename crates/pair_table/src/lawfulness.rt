@@ -5,7 +5,7 @@ ghost use Prim.Native.Nat.{_*_, _^_, _≤_, _<_};
 ghost use lib.ListN.{length};
 ghost use Rattle.tables.specs.Slots.{items};
 ghost use Rattle.tables.specs.Shapes.{Decides, EmptyFrom, RunUp, Placed, AllPlaced, Lawful};
-ghost use Rattle.tables.specs.Calls.{tableJudged, itemJudged};
+ghost use Rattle.tables.specs.Calls.{recordOf, tableJudged, itemJudged, newOf, growthJudged};
 ghost use Rattle.refusals.specs.Outcome.{andThen};
 ghost use Rattle.pair_table.specs.Told.{toldVerdict};
 use super::slots::EMPTY;
@@ -180,4 +180,74 @@ fn is_lawful(slots: &[u32], lg: u8, v: u8, c: u32) -> bool
         return false;
     }
     all_placed(slots, lg, v)
+}
+
+// Refusals 2, 15.
+pub fn judge_table(slots: &[u32], spare: &[u32], lg: u8, v: u8, c: u32) -> Verdict
+    ensures { λ r. ⌜ toldVerdict r ≡ tableJudged (now (slots .entry)) (now (spare .entry)) lg v c ⌝ }
+{
+    if slots.len() != spare.len() {
+        return Verdict::Refused(Refusal::WrongLength);
+    }
+    if !is_lawful(slots, lg, v, c) {
+        return Verdict::Refused(Refusal::NotLawful);
+    }
+    Verdict::Passes
+}
+
+// Refusals 10, 12.
+pub fn judge_item(v: u8, item: u32, place: u64) -> Verdict
+    requires { ⌜ v ≤ 32 ⌝ }
+    ensures { λ r. ⌜ toldVerdict r ≡ itemJudged v item place ⌝ }
+{
+    if item == EMPTY {
+        return Verdict::Refused(Refusal::Reserved { place });
+    }
+    if !below(item, v) {
+        return Verdict::Refused(Refusal::ItemNotBelow { place });
+    }
+    Verdict::Passes
+}
+
+// Refusals 2, 15, 10, 12.
+pub fn judge_call(slots: &[u32], spare: &[u32], lg: u8, v: u8, c: u32, item: u32) -> Verdict
+    ensures { λ r. ⌜ toldVerdict r ≡ andThen (tableJudged (now (slots .entry)) (now (spare .entry)) lg v c) (itemJudged v item 0) ⌝ }
+{
+    match judge_table(slots, spare, lg, v, c) {
+        Verdict::Refused(why) => Verdict::Refused(why),
+        Verdict::Passes => judge_item(v, item, 0),
+    }
+}
+
+// Refusals 2, 15, 5 of a new table.
+pub fn judge_new(slots: &[u32], spare: &[u32], lg: u8, v: u8) -> Verdict
+    ensures { λ r. ⌜ newOf (now (slots .entry)) (now (spare .entry)) lg v ≡ andThen (toldVerdict r) (recordOf lg v 0) ⌝ }
+{
+    if slots.len() != spare.len() {
+        return Verdict::Refused(Refusal::WrongLength);
+    }
+    if !is_sized(lg, v) {
+        return Verdict::Refused(Refusal::NotLawful);
+    }
+    if slots.len() < size(lg) {
+        return Verdict::Refused(Refusal::NoRoom);
+    }
+    Verdict::Passes
+}
+
+// Refusals 13, 5 of a table that is to have 2^lg slots.
+pub fn judge_growth(slots: &[u32], lg: u8, v: u8) -> Verdict
+    requires { ⌜ lg ≤ 27 ⌝ }
+    ensures { λ r. ⌜ toldVerdict r ≡ growthJudged (now (slots .entry)) lg v ⌝ }
+{
+    if 26 < lg {
+        return Verdict::Refused(Refusal::CannotGrow);
+    }
+    if v <= lg {
+        return Verdict::Refused(Refusal::CannotGrow);
+    }
+    if slots.len() < size(lg) {
+        return Verdict::Refused(Refusal::NoRoom);
+    }
+    Verdict::Passes
 }

@@ -1,9 +1,19 @@
 // The pair table: items in the slots of a lent region, with a lent spare of the same length for rebuilds.
 // After src/cpc/pair_table.rs and src/cpc/union.rs of the Rust crate datasketches 0.5.0 (Apache-2.0); changed: a record by value beside lent regions for a struct that holds a `Vec`,
 // `rebuild` takes the spare, and each call is total and refuses by number.
+ghost use mathlib.Core.Path.{_≡_};
+ghost use Rattle.tables.specs.Calls.{newOf, blankIf, insertOf, insertRegion, spareAfter, clearOf};
+ghost use Rattle.pair_table.specs.Told.{toldTable, toldChange};
+
+mod changing;
 mod lawfulness;
 mod slots;
 
+use changing::wipe;
+use lawfulness::Verdict;
+use lawfulness::judge_call;
+use lawfulness::judge_new;
+use lawfulness::judge_table;
 use refusals::Refusal;
 
 // What a table is besides its slots.
@@ -31,4 +41,61 @@ pub enum ListAnswer {
     // how many items stand at the front of the output
     Listed(u32),
     Refused(Refusal),
+}
+
+// An empty table of 2^lg slots.
+pub fn new(lg: u8, valid: u8, region: &mut [u32], spare: &mut [u32]) -> TableAnswer
+    ensures { λ r. ⌜ (toldTable r ≡ newOf (now (region .entry)) (now (spare .entry)) lg valid)
+        × (now (region .exit) ≡ blankIf (newOf (now (region .entry)) (now (spare .entry)) lg valid) (now (region .entry)))
+        × (now (spare .exit) ≡ blankIf (newOf (now (region .entry)) (now (spare .entry)) lg valid) (now (spare .entry))) ⌝ }
+{
+    match judge_new(region, spare, lg, valid) {
+        Verdict::Refused(why) => TableAnswer::Refused(why),
+        Verdict::Passes => {
+            wipe(region);
+            wipe(spare);
+            TableAnswer::Made(PairTable {
+                lg,
+                valid,
+                items: 0,
+            })
+        }
+    }
+}
+
+// Stores an item; false where it is there already.
+pub fn insert(table: PairTable, region: &mut [u32], spare: &mut [u32], item: u32) -> ChangeAnswer
+    ensures { λ r. ⌜ (toldChange r ≡ insertOf (now (region .entry)) (now (spare .entry)) (table .lg) (table .valid) (table .items) item)
+        × (now (region .exit) ≡ insertRegion (now (region .entry)) (now (spare .entry)) (table .lg) (table .valid) (table .items) item)
+        × (now (spare .exit) ≡ spareAfter (insertOf (now (region .entry)) (now (spare .entry)) (table .lg) (table .valid) (table .items) item) (now (spare .entry))) ⌝ }
+{
+    let lg = table.lg;
+    let v = table.valid;
+    let c = table.items;
+    match judge_call(region, spare, lg, v, c, item) {
+        Verdict::Refused(why) => ChangeAnswer::Refused(why),
+        Verdict::Passes => changing::insert_judged(region, spare, lg, v, c, item),
+    }
+}
+
+// Empties a table, and keeps its size.
+pub fn clear(table: PairTable, region: &mut [u32], spare: &mut [u32]) -> TableAnswer
+    ensures { λ r. ⌜ (toldTable r ≡ clearOf (now (region .entry)) (now (spare .entry)) (table .lg) (table .valid) (table .items))
+        × (now (region .exit) ≡ blankIf (clearOf (now (region .entry)) (now (spare .entry)) (table .lg) (table .valid) (table .items)) (now (region .entry)))
+        × (now (spare .exit) ≡ blankIf (clearOf (now (region .entry)) (now (spare .entry)) (table .lg) (table .valid) (table .items)) (now (spare .entry))) ⌝ }
+{
+    let lg = table.lg;
+    let valid = table.valid;
+    match judge_table(region, spare, lg, valid, table.items) {
+        Verdict::Refused(why) => TableAnswer::Refused(why),
+        Verdict::Passes => {
+            wipe(region);
+            wipe(spare);
+            TableAnswer::Made(PairTable {
+                lg,
+                valid,
+                items: 0,
+            })
+        }
+    }
 }

@@ -1,0 +1,5 @@
+-- Laws that belong to no one function.
+pub mod Judging
+pub mod Rebuilding
+pub mod Called
+pub mod Inserting
