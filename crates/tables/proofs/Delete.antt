@@ -85,7 +85,7 @@ pub step-on : (n i t : ℕ) → steps n i (t + 1) ≡ next n (steps n i t)
 unfolding steps
 step-on n i t = steps-add n i t 1
 
-step-on′ : (n i : ℕ) → steps n i 1 ≡ next n i
+pub step-on′ : (n i : ℕ) → steps n i 1 ≡ next n i
 unfolding steps
 step-on′ n i = refl
 
@@ -101,7 +101,7 @@ path-off s lg v x p b a w off = record {
   there = w .there;
 }
 
-own-path : (s : List ℕ) (lg v c p : ℕ) → Lawful s lg v c → p < 2 ^ lg → (getD s p 0 ≡ empty → ⊥) → Path-to s lg v (getD s p 0) p
+pub own-path : (s : List ℕ) (lg v c p : ℕ) → Lawful s lg v c → p < 2 ^ lg → (getD s p 0 ≡ empty → ⊥) → Path-to s lg v (getD s p 0) p
 unfolding home
 own-path s lg v c p l h f =
     let w = l .placed p h f in
@@ -137,25 +137,25 @@ both s p t = ⊎-elim (λ e. e) (λ d. stop-empty s empty p t d) (same-or-not (g
 -- A table o with the item at slot i to go. The slots from i on hold items up to the m-th after it, which is empty.
 module _ (o : List ℕ) (lg v c i m : ℕ) (l : Lawful o lg v c) (iN : i < 2 ^ lg) (mN : m < 2 ^ lg) (m1 : 0 < m)
     (run : (u : ℕ) → u < m → getD o (steps (2 ^ lg) i u) 0 ≡ empty → ⊥) (gap : getD o (steps (2 ^ lg) i m) 0 ≡ empty) where
-  abbrev n : ℕ
+  abbrev pub n : ℕ
   n = 2 ^ lg
 
-  abbrev at : ℕ → ℕ
+  abbrev pub at : ℕ → ℕ
   at u = steps (2 ^ lg) i u
 
   -- the items that wait, from the t-th slot on, stand where they stood
-  abbrev Ahead : List ℕ → ℕ → Type 0
+  abbrev pub Ahead : List ℕ → ℕ → Type 0
   Ahead s t = (u : ℕ) → t ≤ u → u ≤ m → getD s (at u) 0 ≡ getD o (at u) 0
 
   -- j is no slot of an item that waits
-  abbrev Apart : ℕ → ℕ → Type 0
+  abbrev pub Apart : ℕ → ℕ → Type 0
   Apart t j = (u : ℕ) → t ≤ u → u < m → j ≡ at u → ⊥
 
   -- every other item is found
-  abbrev Found : List ℕ → ℕ → Type 0
+  abbrev pub Found : List ℕ → ℕ → Type 0
   Found s t = (j : ℕ) → j < n → (getD s j 0 ≡ empty → ⊥) → Apart t j → Path-to s lg v (getD s j 0) j
 
-  at-lt : (u : ℕ) → at u < n
+  pub at-lt : (u : ℕ) → at u < n
   at-lt u = steps-lt n i u iN
 
   -- a search that ends at no waiting item passes none of them: it would run on to the empty slot
@@ -205,16 +205,16 @@ module _ (o : List ℕ) (lg v c i m : ℕ) (l : Lawful o lg v c) (iN : i < 2 ^ l
       w = found j jn full′ apart′
 
   -- after the items before the t-th slot were stored again
-  record Mid (s : List ℕ) (t : ℕ) : Type 0 where
-    long : length s ≡ length o
-    ahead : Ahead s t
-    found : Found s t
-    small : (j : ℕ) → j < n → (getD s j 0 ≡ empty → ⊥) → getD s j 0 < 2 ^ v
-    same : (f : ℕ → ℕ) → f empty ≡ 0 → total f s n + f (getD o i 0) ≡ total f o n
-    past : (j : ℕ) → n ≤ j → getD s j 0 ≡ getD o j 0
+  pub record Mid (s : List ℕ) (t : ℕ) : Type 0 where
+    pub long : length s ≡ length o
+    pub ahead : Ahead s t
+    pub found : Found s t
+    pub small : (j : ℕ) → j < n → (getD s j 0 ≡ empty → ⊥) → getD s j 0 < 2 ^ v
+    pub same : (f : ℕ → ℕ) → f empty ≡ 0 → total f s n + f (getD o i 0) ≡ total f o n
+    pub past : (j : ℕ) → n ≤ j → getD s j 0 ≡ getD o j 0
 
   -- the item at slot i is out
-  start : Mid (set o i empty) 1
+  pub start : Mid (set o i empty) 1
   unfolding steps
   start = record {
     long = length-set o i empty;
@@ -232,41 +232,41 @@ module _ (o : List ℕ) (lg v c i m : ℕ) (l : Lawful o lg v c) (iN : i < 2 ^ l
   once = once-lawful o lg v c l
 
   module _ (s : List ℕ) (t : ℕ) (tm : t < m) (a : Mid s t) where
-    abbrev b : ℕ
+    abbrev pub b : ℕ
     b = at t
 
-    abbrev y : ℕ
+    abbrev pub y : ℕ
     y = getD s (at t) 0
 
-    abbrev s₂ : List ℕ
+    abbrev pub s₂ : List ℕ
     s₂ = set s (at t) empty
 
     abbrev q : ℕ
     q = spot (set s (at t) empty) lg v (getD s (at t) 0)
 
-    room : n ≤ length s
+    pub room : n ≤ length s
     room = rw (a .long) (l .room)
 
-    bL : b < length s
+    pub bL : b < length s
     bL = lt-le (at-lt t) room
 
-    was : y ≡ getD o b 0
+    pub was : y ≡ getD o b 0
     was = a .ahead t (omega arith) (omega arith)
 
-    full-y : y ≡ empty → ⊥
+    pub full-y : y ≡ empty → ⊥
     full-y e = run t tm (sym was ∙ e)
 
     emptied : getD s₂ b 0 ≡ empty
     emptied = getD-set-same s b empty 0 bL
 
     -- y is nowhere else
-    gone : (j : ℕ) → j < n → getD s₂ j 0 ≡ y → ⊥
+    pub gone : (j : ℕ) → j < n → getD s₂ j 0 ≡ y → ⊥
     gone j jn e = omega (arith, tally-at y s₂ n j jn e, total-set (one y) s b empty n (at-lt t) bL, one-same y (getD s b 0) refl, one-other y empty (λ z. full-y (sym z)), a .same (one y) (one-other y empty (λ z. full-y (sym z))), once y full-y)
 
     small-y : y < 2 ^ v
     small-y = a .small b (at-lt t) full-y
 
-    home-y : home lg v y < n
+    pub home-y : home lg v y < n
     unfolding home
     home-y = home-lt lg v y (omega (arith, l .bits-least)) small-y
 
@@ -295,7 +295,7 @@ module _ (o : List ℕ) (lg v c i m : ℕ) (l : Lawful o lg v c) (iN : i < 2 ^ l
             (λ z. true≢false (sym (stops-empty s₂ y _ (rw (w .there) emptied)) ∙ path₂ .ends .clear (w .count) z))
             (eq-or-lt-of-le h)
 
-    abbrev s₃ : List ℕ
+    abbrev pub s₃ : List ℕ
     s₃ = set (set s (at t) empty) (spot (set s (at t) empty) lg v (getD s (at t) 0)) (getD s (at t) 0)
 
     qL : q < length s₂
@@ -340,7 +340,7 @@ module _ (o : List ℕ) (lg v c i m : ℕ) (l : Lawful o lg v c) (iN : i < 2 ^ l
             (λ f. let g : getD s₃ j 0 ≡ getD s j 0 = other j d ∙ getD-set-other s b j empty 0 f in rw g (a .small j jn (λ e. full (g ∙ e))))
             (same-or-not j b)
 
-    again : Mid s₃ (t + 1)
+    pub again : Mid s₃ (t + 1)
     again = record {
       long = length-set s₂ q y ∙ length-set s b empty ∙ a .long;
       ahead = ahead₃;
@@ -412,6 +412,33 @@ module _ (o : List ℕ) (lg v c i m : ℕ) (l : Lawful o lg v c) (iN : i < 2 ^ l
       let y = getD o i 0 in
       omega (arith, tally-at y r n (w .0) (w .1) (w .2), done .same (one y) (one-other y empty (λ z. w .3 (sym z))), one-same y y refl, once y (w .3))
 
+-- The items from slot i on end at an empty slot, the m-th after it.
+pub record Cluster (o : List ℕ) (lg i : ℕ) : Type 0 where
+  pub m : ℕ
+  pub short : m < 2 ^ lg
+  pub some : 0 < m
+  pub run : (u : ℕ) → u < m → getD o (steps (2 ^ lg) i u) 0 ≡ empty → ⊥
+  pub gap : getD o (steps (2 ^ lg) i m) 0 ≡ empty
+
+pub cluster : (o : List ℕ) (lg v c i : ℕ) → Lawful o lg v c → i < 2 ^ lg → (getD o i 0 ≡ empty → ⊥) → Cluster o lg i
+unfolding steps
+cluster o lg v c i l iN full =
+    let free = some-empty o (2 ^ lg) (omega (arith, l .count, l .load, pow-pos lg)) in
+    let k = meets (2 ^ lg) i (free .0) iN (free .1) in
+    ends (k .0) (k .1) (rw (k .2) (free .2))
+  where
+    some : (e : ℕ) → getD o (steps (2 ^ lg) i e) 0 ≡ empty → 0 < e
+    some zero gap = absurd (full gap)
+    some (suc e) gap = omega arith
+
+    from : (e : ℕ) → e < 2 ^ lg → Ends o (2 ^ lg) empty i e → Cluster o lg i
+    from e h w =
+        let gap : getD o (steps (2 ^ lg) i e) 0 ≡ empty = both o (steps (2 ^ lg) i e) (w .stop) in
+        record { m = e; short = h; some = some e gap; run = λ u k z. true≢false (sym (stops-empty o empty (steps (2 ^ lg) i u) z) ∙ w .clear u k); gap = gap }
+
+    ends : (k : ℕ) → k < 2 ^ lg → getD o (steps (2 ^ lg) i k) 0 ≡ empty → Cluster o lg i
+    ends k h e = let r = ends-within o (2 ^ lg) empty i k (stops-same o empty (steps (2 ^ lg) i k) e) in from (r .0) (omega arith) (r .2)
+
 -- Deleting the item at slot i.
 pub record Gone (o r : List ℕ) (lg v c i : ℕ) : Type 0 where
   pub lawful : Lawful r lg v (c - 1)
@@ -421,20 +448,13 @@ pub record Gone (o r : List ℕ) (lg v c i : ℕ) : Type 0 where
 
 pub gone-at : (o : List ℕ) (lg v c i : ℕ) → Lawful o lg v c → i < 2 ^ lg → (getD o i 0 ≡ empty → ⊥)
     → Gone o (reseat (set o i empty) lg v (2 ^ lg) (next (2 ^ lg) i)) lg v c i
-unfolding steps
 gone-at o lg v c i l iN full =
-    let free = some-empty o (2 ^ lg) (omega (arith, l .count, l .load, pow-pos lg)) in
-    let k = meets (2 ^ lg) i (free .0) iN (free .1) in
-    let e = ends-within o (2 ^ lg) empty i (k .0) (stops-same o empty (steps (2 ^ lg) i (k .0)) (rw (k .2) (free .2))) in
-    let run : (u : ℕ) → u < e .0 → getD o (steps (2 ^ lg) i u) 0 ≡ empty → ⊥ = λ u h z. true≢false (sym (stops-empty o empty (steps (2 ^ lg) i u) z) ∙ e .2 .clear u h) in
-    let gap : getD o (steps (2 ^ lg) i (e .0)) 0 ≡ empty = both o (steps (2 ^ lg) i (e .0)) (e .2 .stop) in
-    let mN : e .0 < 2 ^ lg = omega arith in
-    let m1 : 0 < e .0 = ⊎-elim (λ (z : e .0 ≡ 0). absurd (full (rw z at gap))) (λ h. h) (eq-zero-or-pos (e .0)) in
+    let k = cluster o lg v c i l iN full in
     record {
-      lawful = back-lawful o lg v c i (e .0) l iN mN m1 run gap;
-      kept = kept o lg v c i (e .0) l iN mN m1 run gap;
-      was-there = was-there o lg v c i (e .0) l iN mN m1 run gap;
-      not-it = not-it o lg v c i (e .0) l iN mN m1 run gap;
+      lawful = back-lawful o lg v c i (k .m) l iN (k .short) (k .some) (k .run) (k .gap);
+      kept = kept o lg v c i (k .m) l iN (k .short) (k .some) (k .run) (k .gap);
+      was-there = was-there o lg v c i (k .m) l iN (k .short) (k .some) (k .run) (k .gap);
+      not-it = not-it o lg v c i (k .m) l iN (k .short) (k .some) (k .run) (k .gap);
     }
 
 pub small-set : (s : List ℕ) (n v q a : ℕ) → q < length s → AllSmall s n v → ((a ≡ empty → ⊥) → a < 2 ^ v) → AllSmall (set s q a) n v

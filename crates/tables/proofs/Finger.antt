@@ -9,13 +9,13 @@ use native.Mathlib.Nat.{le-trans, eq-or-lt-of-le, lt-of-lt-of-le as lt-le}
 use lib.ListN.{length, getD, set, length-set}
 use lib.Pow.{pow-pos}
 use lib.Seq.{getD-set-same, getD-set-other}
-use Rattle.tables.specs.Slots.{empty, home, next, stops, probe, spot, held}
+use Rattle.tables.specs.Slots.{empty, home, next, stops, probe, spot}
 use Rattle.tables.specs.Changes.{place, fill}
 use Rattle.tables.specs.Shapes.{steps, Lawful, RunUp, AllUnder, Member, Stored, Built}
-use Rattle.tables.proofs.Laws.{stops-empty, stops-not, at-or-below, items-full}
+use Rattle.tables.proofs.Laws.{stops-empty, stops-not, at-or-below}
 use Rattle.tables.proofs.Paths.{same-or-not, le-or-lt, steps-add, steps-lt, steps-inj, next-lt, Ends, probe-ends, Path-to, path, homed, at-end, stored-new, run-none}
 use Rattle.tables.proofs.Delete.{steps-apart, step-on}
-use Rattle.tables.proofs.Refilled.{fill-one, total-mono}
+use Rattle.tables.proofs.Refilled.{fill-one, items-some}
 
 -- a search whose home is in a run of items below x walks the run to its end
 run-clear : (s : List ℕ) (n x h p len top d : ℕ) → RunUp s n p len top → h < n → steps n h d ≡ p → d ≤ len → top < x → (k : ℕ) → k < d → stops s x (steps n h k) ≡ false
@@ -166,7 +166,7 @@ first o t lg v l = record {
   lawful = l;
   finger = pow-pos lg;
   run = run-none t (2 ^ lg) 0 0 (pow-pos lg);
-  under = λ j jn f. absurd (omega (arith, total-mono held t (j + 1) (2 ^ lg) (omega arith), items-full t j f, l .count));
+  under = λ j jn f. absurd (omega (arith, items-some t (2 ^ lg) j jn f, l .count));
   fresh = λ k h. absurd (omega arith);
 }
 

@@ -9,28 +9,13 @@ use native.Mathlib.Nat.{zero-add, suc-add, le-trans, eq-or-lt-of-le, eq-zero-or-
 use native.Mathlib.Numerals.{add-one, lt-of-le-of-ne}
 use lib.ListN.{length, getD, set, length-set}
 use lib.Seq.{getD-set-same, getD-set-other}
-use lib.Dec.{eqb, leb}
 use lib.Pow.{pow-pos}
-use borrow.Author.Tests.{eqb-true, eqb-false, leb-true, leb-false}
 use Rattle.laws.specs.Choose.{choose}
+pub use Rattle.laws.proofs.Orders.{same-or-not, le-or-lt}
 use Rattle.tables.specs.Slots.{empty, home, next, stops, probe, spot, held, total, items}
 use Rattle.tables.specs.Changes.{place}
 use Rattle.tables.specs.Shapes.{steps, Placed, AllPlaced, EmptyFrom, Lawful, Sound, Member, Stored, RunUp}
 use Rattle.tables.proofs.Laws.{next-wrap, next-inner, stops-same, stops-empty, stops-not, probe-stop, probe-go, items-full, items-empty, home-lt, held-empty, held-full, at-or-below}
-
-pub same-or-not : (a b : ℕ) → (a ≡ b) ⊎ (a ≡ b → ⊥)
-same-or-not a b = go (eqb a b) refl
-  where
-    go : (t : Bool) → eqb a b ≡ t → (a ≡ b) ⊎ (a ≡ b → ⊥)
-    go true e = inl (eqb-true a b e)
-    go false e = inr (eqb-false a b e)
-
-pub le-or-lt : (a b : ℕ) → (a ≤ b) ⊎ (b < a)
-le-or-lt a b = go (leb a b) refl
-  where
-    go : (t : Bool) → leb a b ≡ t → (a ≤ b) ⊎ (b < a)
-    go true e = inl (leb-true a b e)
-    go false e = inr (leb-false a b e)
 
 pub steps-add : (n p a b : ℕ) → steps n p (a + b) ≡ steps n (steps n p a) b
 unfolding steps

@@ -16,7 +16,7 @@ use Rattle.laws.specs.Choose.{choose}
 use Rattle.tables.specs.Slots.{empty, spot, held, total, items}
 use Rattle.tables.specs.Changes.{place, fill, rebuilt}
 use Rattle.tables.specs.Shapes.{AllPlaced, Lawful, Sound, Member, AllSmall, Grown}
-use Rattle.tables.proofs.Laws.{held-empty, held-full}
+use Rattle.tables.proofs.Laws.{held-empty, held-full, items-full}
 use Rattle.tables.proofs.Paths.{same-or-not, place-lawful, place-sound, place-member, member-place, only-there, at-end, spot-lt, length-place, total-set}
 use Rattle.tables.proofs.Delete.{one, one-same, one-other, tally-at, tally-some, once-placed}
 
@@ -45,6 +45,14 @@ total-mono f s k (suc n) h = go (total-mono f s k n) (same-or-not k (suc n))
     go : (k ≤ n → total f s k ≤ total f s n) → (k ≡ suc n) ⊎ (k ≡ suc n → ⊥) → total f s k ≤ total f s n + f (getD s n 0)
     go ih (inl e) = rw e (omega arith)
     go ih (inr d) = let h : k ≤ n = le-of-le-suc-ne h d in omega (arith, ih h)
+
+-- a slot that holds an item counts
+pub items-some : (s : List ℕ) (n p : ℕ) → p < n → (getD s p 0 ≡ empty → ⊥) → 0 < items s n
+items-some s n p h f = omega (arith, total-mono held s (p + 1) n (omega arith), items-full s p f)
+
+-- a table of no items holds none
+pub none-in : (s : List ℕ) (lg v : ℕ) → Lawful s lg v 0 → (y : ℕ) → Member s (2 ^ lg) y → ⊥
+none-in s lg v l y m = omega (arith, items-some s (2 ^ lg) (m .0) (m .1) (λ e. m .3 (sym (m .2) ∙ e)), l .count)
 
 -- a lawful table s of c items, and an item y that it lacks
 place-new : (s : List ℕ) (lg v c y : ℕ) → Lawful s lg v c → y < 2 ^ v → (y ≡ empty → ⊥) → total (one y) s (2 ^ lg) ≡ 0 → 4 * (c + 1) ≤ 3 * 2 ^ lg

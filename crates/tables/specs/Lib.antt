@@ -3,3 +3,4 @@ pub mod Changes
 pub mod Listings
 pub mod Shapes
 pub mod Calls
+pub mod Runs

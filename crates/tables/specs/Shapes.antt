@@ -4,8 +4,8 @@ use Prim.Native.Nat.{ℕ, zero, suc, _+_, _-_, _*_, _^_, _≤_, _<_}
 use mathlib.Core.Bool.{Bool, true, false, not}
 use mathlib.Core.Logic.{_⊎_}
 use mathlib.Core.List.{List, [], _∷_, _++_}
-use lib.ListN.{length, getD, take, drop}
-use lib.Dec.{eqb}
+use lib.ListN.{length, getD, set, take, drop}
+use lib.Dec.{eqb, leb}
 use Rattle.laws.specs.Choose.{choose}
 use Rattle.tables.specs.Slots.{empty, home, next, probe, spot, total, held, items}
 use Rattle.tables.specs.Changes.{place, remove, fill, rebuilt}
@@ -15,6 +15,19 @@ use Rattle.tables.specs.Listings.{high}
 unfoldable pub steps : ℕ → ℕ → ℕ → ℕ
 steps n p zero = p
 steps n p (suc k) = steps n (next n p) k
+
+-- how many steps lead from slot a to slot b among n
+unfoldable pub apart : ℕ → ℕ → ℕ → ℕ
+apart n a b = choose (leb a b) (b - a) (n - a + b)
+
+-- a delete that moves its hole h along, from slot p on up to the next empty slot: the item at p goes to the hole if the hole lies on its way from its home to p, and then p is the hole
+unfoldable pub shifted : List ℕ → ℕ → ℕ → ℕ → ℕ → ℕ → List ℕ
+shifted s lg v zero h p = s
+shifted s lg v (suc left) h p =
+    choose (eqb (getD s p 0) empty) s
+    (choose (leb (apart (2 ^ lg) h p) (apart (2 ^ lg) (home lg v (getD s p 0)) p))
+    (shifted (set (set s h (getD s p 0)) p empty) lg v left p (next (2 ^ lg) p))
+    (shifted s lg v left h (next (2 ^ lg) p)))
 
 -- the item at slot p is below 2 ^ v, and its search ends at p
 pub record Placed (s : List ℕ) (lg v p : ℕ) : Type 0 where
