@@ -7,9 +7,9 @@ use Rattle.refusals.specs.Told.{told}
 use Rattle.refusals.specs.declared.Refusal.{Refusal}
 use Rattle.refusals.proofs.Refusing.{Refuses, by-place, by-bit, refuses, kept}
 use Rattle.tables.specs.Changes.{blank}
-use Rattle.tables.specs.Calls.{recordOf, ifChanged, spareAfter, blankIf, tableJudged, itemJudged, insertOf}
+use Rattle.tables.specs.Calls.{recordOf, ifChanged, spareAfter, blankIf, tableJudged, itemJudged, insertOf, deleteOf}
 use Rattle.pair_table.specs.Told.{toldChange}
-use Rattle.pair_table.specs.Steps.{ChangedBy, growOn, insertOn}
+use Rattle.pair_table.specs.Steps.{ChangedBy, growOn, insertOn, deleteOn}
 use Rattle.pair_table.specs.declared.ChangeAnswer.{ChangeAnswer}
 use Rattle.pair_table.proofs.Judging.{ends-both, then-assoc}
 
@@ -45,3 +45,7 @@ module _ (whole more : Outcome) (s e : List ℕ) where
 pub insert-chain : (s e : List ℕ) (lg v c x : ℕ) → insertOf s e lg v c x ≡ andThen (andThen (tableJudged s e lg v c) (itemJudged v x 0)) (insertOn s lg v c x)
 unfolding insertOf insertOn growOn
 insert-chain s e lg v c x = then-assoc (tableJudged s e lg v c) (itemJudged v x 0) (insertOn s lg v c x)
+
+pub delete-chain : (s e : List ℕ) (lg v c x : ℕ) → deleteOf s e lg v c x ≡ andThen (andThen (tableJudged s e lg v c) (itemJudged v x 0)) (deleteOn s lg v c x)
+unfolding deleteOf deleteOn
+delete-chain s e lg v c x = then-assoc (tableJudged s e lg v c) (itemJudged v x 0) (deleteOn s lg v c x)

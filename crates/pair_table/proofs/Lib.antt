@@ -3,3 +3,4 @@ pub mod Judging
 pub mod Rebuilding
 pub mod Called
 pub mod Inserting
+pub mod Deleting

@@ -1,19 +1,24 @@
-// What changes a table: a store, a rebuild.
-// After src/cpc/pair_table.rs of the Rust crate datasketches 0.5.0 (Apache-2.0); changed: see lib.rt, and a rebuild goes through the spare.
+// What changes a table: a store, a delete, a rebuild.
+// After src/cpc/pair_table.rs of the Rust crate datasketches 0.5.0 (Apache-2.0); changed: see lib.rt, a rebuild goes through the spare, and a delete moves
+// its hole along where the Rust stores each item again: the same slots, with no search.
 ghost use mathlib.Core.Path.{_≡_};
-ghost use Prim.Native.Nat.{_+_, _^_, _≤_, _<_};
-ghost use lib.ListN.{length};
-ghost use Rattle.tables.specs.Slots.{empty, spot};
-ghost use Rattle.tables.specs.Changes.{blank, fill, fits, rebuilt};
-ghost use Rattle.tables.specs.Shapes.{EmptyFrom, AllSmall, Lawful};
-ghost use Rattle.pair_table.specs.Steps.{InsertedBy, GrownBy};
+ghost use Prim.Native.Nat.{_+_, _-_, _^_, _≤_, _<_};
+ghost use lib.Dec.{leb};
+ghost use lib.ListN.{length, getD};
+ghost use Rattle.tables.specs.Slots.{empty, spot, next};
+ghost use Rattle.tables.specs.Changes.{blank, fill, fits, rebuilt, remove, halved, halvedLg};
+ghost use Rattle.tables.specs.Shapes.{EmptyFrom, AllSmall, Lawful, apart, shifted};
+ghost use Rattle.pair_table.specs.Steps.{InsertedBy, GrownBy, DeletedBy};
 use super::ChangeAnswer;
 use super::PairTable;
-use super::lawfulness::Verdict;
+use super::Verdict;
 use super::lawfulness::judge_growth;
 use super::slots::EMPTY;
+use super::slots::dist;
+use super::slots::home_of;
 use super::slots::lookup;
 use super::slots::size;
+use super::slots::step;
 
 // Empties every slot.
 pub fn wipe(slots: &mut [u32])
@@ -133,4 +138,93 @@ pub fn insert_judged(
         });
     }
     grow(region, spare, lg, v, c, item, at)
+}
+
+// Whether the hole h lies on the way from an item's home to its slot p.
+fn on_way(n: usize, h: usize, home: usize, p: usize) -> bool
+    requires { ⌜ (h < n) × (home < n) × (p < n) ⌝ }
+    ensures { λ r. ⌜ r ≡ leb (apart n h p) (apart n home p) ⌝ }
+{
+    dist(n, h, p) <= dist(n, home, p)
+}
+
+// Moves a hole along, up to the next empty slot: an item goes to the hole where the hole lies on its way, and its slot is then the hole.
+fn shift(slots: &mut [u32], lg: u8, v: u8, hole: usize)
+    requires { ⌜ (2 ≤ lg) × (lg ≤ 26) × (lg < v) × (v ≤ 32) × (2 ^ lg ≤ length (now slots)) × (hole < 2 ^ lg) ⌝ }
+    requires { ⌜ AllSmall (now slots) (2 ^ lg) v ⌝ }
+    ensures { λ _. ⌜ now (slots .exit) ≡ shifted (now (slots .entry)) lg v (2 ^ lg) hole (next (2 ^ lg) hole) ⌝ }
+{
+    let n = size(lg);
+    let mut h = hole;
+    let mut p = step(n, hole);
+    let mut left = n;
+    while 0 < left {
+        let y = slots[p];
+        if y == EMPTY {
+            return;
+        }
+        let home = home_of(lg, v, y);
+        if on_way(n, h, home, p) {
+            slots[h] = y;
+            slots[p] = EMPTY;
+            h = p;
+        }
+        p = step(n, p);
+        left -= 1;
+    }
+}
+
+// Takes the item at slot `at` out.
+fn take_out(region: &mut [u32], lg: u8, v: u8, c: u32, item: u32, at: usize)
+    requires { ⌜ Lawful (now region) lg v c × (item ≡ empty → ⊥) ⌝ }
+    requires { ⌜ (at ≡ spot (now region) lg v item) × (at < 2 ^ lg) × (getD (now region) at 0 ≡ item) ⌝ }
+    ensures { λ _. ⌜ now (region .exit) ≡ remove (now (region .entry)) lg v item ⌝ }
+{
+    region[at] = EMPTY;
+    shift(region, lg, v, at);
+}
+
+// Halves the table while its items fill less than a quarter of it, through a spare that is empty before and after, and says what lg it ends at.
+// A rebuild touches the slots of its own table only, so that all of them together cost about one pass.
+fn halve(region: &mut [u32], spare: &mut [u32], lg: u8, v: u8, c: u32) -> u8
+    requires { ⌜ (length (now region) ≡ length (now spare)) × (now spare ≡ blank (now spare)) × Lawful (now region) lg v c ⌝ }
+    ensures { λ r. ⌜ (now (region .exit) ≡ halved lg (now (region .entry)) lg v c) × (r ≡ halvedLg lg lg c) × (now (spare .exit) ≡ blank (now (spare .entry))) ⌝ }
+{
+    let mut at = lg;
+    while 2 < at {
+        let n = size(at);
+        if n <= 4 * c as usize {
+            return at;
+        }
+        rebuild(region, spare, n, at, at - 1, v);
+        at -= 1;
+    }
+    at
+}
+
+// All is judged.
+pub fn delete_judged(
+    region: &mut [u32],
+    spare: &mut [u32],
+    lg: u8,
+    v: u8,
+    c: u32,
+    item: u32,
+) -> ChangeAnswer
+    requires { ⌜ Lawful (now region) lg v c × (length (now region) ≡ length (now spare)) ⌝ }
+    requires { ⌜ (item < 2 ^ v) × (item ≡ empty → ⊥) ⌝ }
+    ensures { λ r. ⌜ DeletedBy (now (region .entry)) (now (spare .entry)) lg v c item (now (region .exit)) (now (spare .exit)) r ⌝ }
+{
+    let at = lookup(region, lg, v, item);
+    if region[at] != item {
+        return ChangeAnswer::Unchanged;
+    }
+    take_out(region, lg, v, c, item, at);
+    wipe(spare);
+    let to = halve(region, spare, lg, v, c - 1);
+    ChangeAnswer::Changed(PairTable {
+        lg: to,
+        valid: v,
+        items: c - 1,
+    })
 }

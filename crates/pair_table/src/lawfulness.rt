@@ -8,6 +8,7 @@ ghost use Rattle.tables.specs.Shapes.{Decides, EmptyFrom, RunUp, Placed, AllPla
 ghost use Rattle.tables.specs.Calls.{recordOf, tableJudged, itemJudged, newOf, growthJudged};
 ghost use Rattle.refusals.specs.Outcome.{andThen};
 ghost use Rattle.pair_table.specs.Told.{toldVerdict};
+use super::Verdict;
 use super::slots::EMPTY;
 use super::slots::below;
 use super::slots::dist;
@@ -15,11 +16,6 @@ use super::slots::home_of;
 use super::slots::seek;
 use super::slots::size;
 use refusals::Refusal;
-
-pub enum Verdict {
-    Passes,
-    Refused(Refusal),
-}
 
 // How many of the first n slots hold an item.
 fn count_items(slots: &[u32], n: usize) -> usize

@@ -2,18 +2,16 @@
 // After src/cpc/pair_table.rs and src/cpc/union.rs of the Rust crate datasketches 0.5.0 (Apache-2.0); changed: a record by value beside lent regions for a struct that holds a `Vec`,
 // `rebuild` takes the spare, and each call is total and refuses by number.
 ghost use mathlib.Core.Path.{_≡_};
-ghost use Rattle.tables.specs.Calls.{newOf, blankIf, insertOf, insertRegion, spareAfter, clearOf};
-ghost use Rattle.pair_table.specs.Told.{toldTable, toldChange};
+ghost use Rattle.tables.specs.Calls.{tableJudged, newOf, blankIf, insertOf, insertRegion, deleteOf, deleteRegion, spareAfter, clearOf};
+ghost use Rattle.pair_table.specs.Told.{toldTable, toldChange, toldVerdict};
 
 mod changing;
 mod lawfulness;
 mod slots;
 
 use changing::wipe;
-use lawfulness::Verdict;
 use lawfulness::judge_call;
 use lawfulness::judge_new;
-use lawfulness::judge_table;
 use refusals::Refusal;
 
 // What a table is besides its slots.
@@ -37,10 +35,17 @@ pub enum ChangeAnswer {
     Refused(Refusal),
 }
 
-pub enum ListAnswer {
-    // how many items stand at the front of the output
-    Listed(u32),
+// What the judging of a lent table says.
+pub enum Verdict {
+    Passes,
     Refused(Refusal),
+}
+
+// Whether a lent table is lawful: refusals 2, 15, which every call that is lent one tries first.
+pub fn judge(table: PairTable, region: &[u32], spare: &[u32]) -> Verdict
+    ensures { λ r. ⌜ toldVerdict r ≡ tableJudged (now (region .entry)) (now (spare .entry)) (table .lg) (table .valid) (table .items) ⌝ }
+{
+    lawfulness::judge_table(region, spare, table.lg, table.valid, table.items)
 }
 
 // An empty table of 2^lg slots.
@@ -78,6 +83,21 @@ pub fn insert(table: PairTable, region: &mut [u32], spare: &mut [u32], item: u32
     }
 }
 
+// Takes an item out; false where it is not there.
+pub fn delete(table: PairTable, region: &mut [u32], spare: &mut [u32], item: u32) -> ChangeAnswer
+    ensures { λ r. ⌜ (toldChange r ≡ deleteOf (now (region .entry)) (now (spare .entry)) (table .lg) (table .valid) (table .items) item)
+        × (now (region .exit) ≡ deleteRegion (now (region .entry)) (now (spare .entry)) (table .lg) (table .valid) (table .items) item)
+        × (now (spare .exit) ≡ spareAfter (deleteOf (now (region .entry)) (now (spare .entry)) (table .lg) (table .valid) (table .items) item) (now (spare .entry))) ⌝ }
+{
+    let lg = table.lg;
+    let v = table.valid;
+    let c = table.items;
+    match judge_call(region, spare, lg, v, c, item) {
+        Verdict::Refused(why) => ChangeAnswer::Refused(why),
+        Verdict::Passes => changing::delete_judged(region, spare, lg, v, c, item),
+    }
+}
+
 // Empties a table, and keeps its size.
 pub fn clear(table: PairTable, region: &mut [u32], spare: &mut [u32]) -> TableAnswer
     ensures { λ r. ⌜ (toldTable r ≡ clearOf (now (region .entry)) (now (spare .entry)) (table .lg) (table .valid) (table .items))
@@ -86,7 +106,7 @@ pub fn clear(table: PairTable, region: &mut [u32], spare: &mut [u32]) -> TableAn
 {
     let lg = table.lg;
     let valid = table.valid;
-    match judge_table(region, spare, lg, valid, table.items) {
+    match lawfulness::judge_table(region, spare, lg, valid, table.items) {
         Verdict::Refused(why) => TableAnswer::Refused(why),
         Verdict::Passes => {
             wipe(region);

@@ -7,7 +7,7 @@ use Rattle.refusals.specs.Outcome.{andThen}
 use Rattle.refusals.specs.Told.{told}
 use Rattle.tables.specs.Calls.{newOf, recordOf}
 use Rattle.pair_table.specs.Told.{toldVerdict}
-use Rattle.pair_table.specs.declared.lawfulness.Verdict.{Verdict}
+use Rattle.pair_table.specs.declared.Verdict.{Verdict}
 use Rattle.pair_table.proofs.Called.{table-refused, table-made}
 use Rattle.pair_table.proofs.new.Statement.{statement}
 use Rattle.pair_table.proofs.new.Tie as tie
