@@ -1,9 +1,8 @@
 -- No second outcome satisfies what a public call promises. Assumes nothing.
 use mathlib.Core.Path.{_≡_, refl, sym, ap, _∙_}
-use mathlib.Core.List.{List, [], _∷_}
+use mathlib.Core.List.{List}
 use Prim.Native.Nat.{ℕ}
 use native.Mathlib.Omega.{arith}
-use Rattle.refusals.specs.Outcome.{Outcome, accepted}
 use Rattle.refusals.proofs.Only.{told-once, never-accepted}
 use Rattle.tables.specs.Calls.{tableJudged, newOf, blankIf, buildOf, buildRegion, buildSpare, insertOf, insertRegion, deleteOf, deleteRegion, spareAfter, clearOf}
 use Rattle.pair_table.specs.Told.{toldTable, toldChange, toldVerdict}

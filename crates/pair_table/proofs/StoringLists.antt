@@ -1,23 +1,22 @@
 -- Building a table from a list. Assumes nothing.
 use mathlib.Core.Path.{_≡_, refl, sym, ap, _∙_, subst}
 use mathlib.Core.Bool.{Bool, true, false, _||_}
-use mathlib.Core.Logic.{⊎-elim}
 use mathlib.Core.List.{List, [], _∷_}
 use Prim.Native.Nat.{ℕ, suc, _+_, _-_, _*_, _^_, _≤_, _<_}
 use native.Mathlib.Omega.{arith}
 use native.Mathlib.Numerals.{add-one}
 use lib.ListN.{length, getD, drop, replicate, length-replicate}
 use lib.Dec.{eqb, leb, ltb}
-use borrow.Author.Tests.{eqb-true, ltb-false, leb-true, leb-false, not-false}
+use borrow.Author.Tests.{ltb-false, leb-true, leb-false}
 use Rattle.laws.specs.Choose.{choose}
-use Rattle.refusals.specs.Outcome.{Outcome, accepted, refused, stopped, andThen}
+use Rattle.refusals.specs.Outcome.{Outcome, accepted, refused, andThen}
 use Rattle.refusals.specs.Told.{told}
 use Rattle.refusals.specs.declared.Refusal.{Refusal}
 use Rattle.refusals.proofs.Only.{never-accepted}
 use Rattle.tables.specs.Slots.{empty}
 use Rattle.tables.specs.Changes.{blank, fill, fits, leastLg, buildLg}
 use Rattle.tables.specs.Shapes.{Lawful, Built}
-use Rattle.tables.specs.Calls.{unequal, recordOf, ifBuilt, itemJudged, itemsJudged, growthJudged, twiceJudged, buildOf}
+use Rattle.tables.specs.Calls.{unequal, recordOf, ifBuilt, itemJudged, itemsJudged, growthJudged, buildOf}
 use Rattle.tables.proofs.Refilled.{length-fill, blank-lawful}
 use Rattle.tables.proofs.Items.{Fine, items-turn, items-end, items-fine}
 use Rattle.tables.proofs.Sizes.{least-stop, least-go, least-out, build-least, build-fits}
