@@ -73,7 +73,7 @@ module _ (book table : List ℕ) (lg : ℕ) (pairs : List ℕ) (g : Granted book
       × (pairsRead book table lg (length pairs) (pairsWritten book lg pairs out) room ≡ pairs ++ drop (length pairs) room)
   reads-back out room fits short enough =
       let j : readPairsJudged book table lg (length pairs) (pairsWritten book lg pairs out) room ≡ accepted [] =
-          judged (pairsWritten book lg pairs out) room (omega (arith, long out fits)) enough in
+      judged (pairsWritten book lg pairs out) room (omega (arith, long out fits)) enough in
       let r = same out fits in (
         ap₂ (λ (o : Outcome) (reading : Reading). andThen o (readOutcome reading)) j r,
         ap₂ (λ (o : Outcome) (reading : Reading). ifAccepted o (readInto reading room) room) j r,

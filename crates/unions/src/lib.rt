@@ -1,7 +1,17 @@
 // Matrices and unions: count, split, expansion, new union, merge.
 // After src/cpc/union.rs, src/cpc/sketch.rs (build_bit_matrix) and src/cpc/mod.rs (count_bits_set_in_matrix) of the Rust crate datasketches 0.5.0 (Apache-2.0); changed: one lent matrix and a
 // small record for `UnionState`, lent slices for `Vec`, and each call is total and refuses by number.
+ghost use mathlib.Core.Path.{_≡_};
+ghost use Rattle.matrices.specs.Calls.{countOf, newUnionOf, newMatrix};
+ghost use Rattle.unions.specs.Told.{toldCount, toldUnion};
+
+mod clearing;
+mod counting;
+mod words;
+
 use numbers::Flavor;
+use numbers::RowsAnswer;
+use numbers::rows;
 use refusals::Refusal;
 
 pub enum CountAnswer {
@@ -49,4 +59,42 @@ pub struct Source {
 pub enum UnionAnswer {
     Made(CpcUnion),
     Refused(Refusal),
+}
+
+// How many pairs a matrix holds.
+pub fn count(lg: u8, matrix: &[u64]) -> CountAnswer
+    ensures { λ r. ⌜ toldCount r ≡ countOf lg (now (matrix .entry)) ⌝ }
+{
+    match rows(lg) {
+        RowsAnswer::Refused(why) => CountAnswer::Refused(why),
+        RowsAnswer::Rows(k) => {
+            if (matrix.len() as u64) != k {
+                return CountAnswer::Refused(Refusal::WrongLength);
+            }
+            if counting::has_reserved(lg, matrix) {
+                return CountAnswer::Refused(Refusal::Reserved { place: 67108863 });
+            }
+            CountAnswer::Counted(counting::count_ones_in(matrix) as u32)
+        }
+    }
+}
+
+// A union of nothing: the matrix is zeroed.
+pub fn new_union(lg: u8, seed: u64, matrix: &mut [u64]) -> UnionAnswer
+    ensures { λ r. ⌜ (toldUnion r ≡ newUnionOf lg seed (now (matrix .entry))) × (now (matrix .exit) ≡ newMatrix lg seed (now (matrix .entry))) ⌝ }
+{
+    match rows(lg) {
+        RowsAnswer::Refused(why) => UnionAnswer::Refused(why),
+        RowsAnswer::Rows(k) => {
+            if (matrix.len() as u64) != k {
+                return UnionAnswer::Refused(Refusal::WrongLength);
+            }
+            clearing::clear(matrix);
+            UnionAnswer::Made(CpcUnion {
+                lg: lg,
+                present: lg,
+                seed: seed,
+            })
+        }
+    }
 }
