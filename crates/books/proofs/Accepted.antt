@@ -10,6 +10,7 @@ use lib.ListN.{length, getD}
 use Rattle.laws.proofs.Truths.{and-left, and-right}
 use Rattle.laws.proofs.Lists.{length-listOf, getD-listOf}
 use Rattle.refusals.specs.Outcome.{accepted}
+use Rattle.refusals.proofs.Refusing.{took}
 use Rattle.books.specs.Book.{firstMisshapen, oneSymbolEach, sized}
 use Rattle.books.specs.Table.{decoded, isTableOf, tableOf}
 use Rattle.books.specs.Calls.{judged, checkOf, checkTableOf}
@@ -17,7 +18,7 @@ use Rattle.books.specs.Steps.{AllShaped, Hit, entryOf}
 use Rattle.books.specs.Uses.{Matches}
 use Rattle.books.proofs.Shaping.{all-shaped}
 use Rattle.books.proofs.Agreement.{which-at, decoded-is, table-at}
-use Rattle.books.proofs.Verdicts.{took, judged-accepted, sized-short, fit, fit-both}
+use Rattle.books.proofs.Verdicts.{judged-accepted, sized-short, fit, fit-both}
 
 -- a book that passes
 pub book-accepted : (book : List ℕ) → checkOf book ≡ accepted [] → (sized book ≡ true) × AllShaped book × (oneSymbolEach book ≡ true)

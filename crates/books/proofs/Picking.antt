@@ -11,9 +11,8 @@ use Rattle.laws.specs.Choose.{choose}
 use Rattle.refusals.specs.Outcome.{Outcome, accepted, refused, ifAccepted}
 use Rattle.refusals.specs.Told.{told}
 use Rattle.refusals.specs.declared.Refusal.{Refusal}
-use Rattle.refusals.proofs.Refusing.{kept}
+use Rattle.refusals.proofs.Refusing.{kept, took}
 use Rattle.books.specs.Calls.{pickOf, picked}
-use Rattle.books.proofs.Verdicts.{took}
 
 module _ (set : List ℕ) (phase : ℕ) where
   pub wrong-length : (length set ≡ 5632 → ⊥) → pickOf set phase ≡ refused 2 0

@@ -15,19 +15,13 @@ use Rattle.refusals.specs.Outcome.{Outcome, accepted, refused, ifAccepted}
 use Rattle.refusals.specs.Told.{told}
 use Rattle.refusals.specs.declared.Refusal.{Refusal}
 use Rattle.refusals.proofs.Only.{never-accepted}
-use Rattle.refusals.proofs.Refusing.{kept}
+use Rattle.refusals.proofs.Refusing.{kept, took}
 use Rattle.books.specs.Book.{shaped, firstMisshapen, oneSymbolEach, sized}
 use Rattle.books.specs.Table.{isTableOf, tableOf}
 use Rattle.books.specs.Calls.{judged, checkOf, checkTableOf, fillOf, filled}
 use Rattle.books.specs.Steps.{taken, firstJudged}
 use Rattle.books.proofs.Shaping.{all-shaped}
 use Rattle.books.proofs.Agreement.{full}
-
--- an accepted chain did not stop at its first test
-pub took : (b : Bool) (a : Outcome) (number place : ℕ) (values : List ℕ) → choose b (refused number place) a ≡ accepted values
-    → (b ≡ false) × (a ≡ accepted values)
-took true a number place values e = let z : _≡_ {A = ℕ} 0 1 = cc in absurd (omega arith)
-took false a number place values e = (refl, e)
 
 first-within : (book : List ℕ) → firstMisshapen book ≤ length book
 unfolding firstMisshapen

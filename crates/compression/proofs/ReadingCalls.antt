@@ -13,7 +13,7 @@ use Rattle.refusals.specs.Outcome.{Outcome, accepted, refused, stopped, ifAccep
 use Rattle.refusals.specs.Told.{told}
 use Rattle.refusals.specs.declared.Refusal.{Refusal}
 use Rattle.refusals.proofs.Only.{never-accepted}
-use Rattle.refusals.proofs.Refusing.{Refuses, by-place, by-bit, refuses, kept}
+use Rattle.refusals.proofs.Refusing.{Refuses, by-place, by-bit, refuses, kept, took}
 use Rattle.numbers.specs.Numbers.{baseBitsAt}
 use Rattle.numbers.specs.Calls.{outside, baseBitsOf}
 use Rattle.books.specs.Book.{firstMisshapen, oneSymbolEach}
@@ -22,7 +22,7 @@ use Rattle.books.specs.Calls.{judged, checkTableOf}
 use Rattle.books.specs.Uses.{Decodes}
 use Rattle.books.proofs.Accepted.{table-accepted}
 use Rattle.books.proofs.Agreement.{table-at}
-use Rattle.books.proofs.Verdicts.{took, judged-accepted, fit}
+use Rattle.books.proofs.Verdicts.{judged-accepted, fit}
 use Rattle.streams.specs.Stream.{number, wordBits}
 use Rattle.streams.specs.Read.{Reading, pairsFrom, bytesFrom}
 use Rattle.streams.specs.Calls.{readOutcome, readInto, pairsReading, readPairsJudged, readPairsOf, pairsRead, windowReading, readWindowJudged, readWindowOf, windowRead}

@@ -16,14 +16,13 @@ use Rattle.refusals.specs.Units.{wordsFor}
 use Rattle.refusals.specs.Told.{told}
 use Rattle.refusals.specs.declared.Refusal.{Refusal}
 use Rattle.refusals.specs.declared.Refusal.the-variants.{NoRoom}
-use Rattle.refusals.proofs.Refusing.{Refuses, by-place, by-bit, refuses, kept}
+use Rattle.refusals.proofs.Refusing.{Refuses, by-place, by-bit, refuses, kept, took}
 use Rattle.numbers.specs.Numbers.{baseBitsAt, mostBitsAt}
 use Rattle.numbers.specs.Calls.{outside, rowsOf, baseBitsOf, mostBitsOf}
 use Rattle.numbers.proofs.RowsTold.{RowsAt, rows-given}
 use Rattle.books.specs.Book.{firstMisshapen, oneSymbolEach, sized}
 use Rattle.books.specs.Calls.{checkOf}
 use Rattle.books.specs.Steps.{AllShaped}
-use Rattle.books.proofs.Verdicts.{took}
 use Rattle.books.proofs.Accepted.{book-accepted}
 use Rattle.pair_lists.specs.Lists.{pairsJudged, judgePairsOf}
 use Rattle.streams.specs.Codes.{Code}

@@ -5,35 +5,24 @@ use mathlib.Core.Bool.{Bool, true, false, _&&_, _||_}
 use mathlib.Core.List.{List}
 use Prim.Native.Nat.{ℕ, _+_, _%_, _^_, _≤_, _<_}
 use native.Mathlib.Nat.{mod-lt, mod-eq-of-lt}
-use native.Mathlib.Numerals.{add-one}
 use native.Mathlib.Omega.{arith}
 use borrow.Author.Tests.{eq-eqb, ne-eqb, lt-ltb, le-ltb, le-leb, lt-leb}
 use lib.Dec.{eqb, ltb, leb}
 use lib.ListN.{length, getD, set}
 use Rattle.laws.specs.Below.{anyBelow}
+use Rattle.laws.specs.Choose.{choose}
 use Rattle.laws.specs.Columns.{wordOf}
-use Rattle.laws.proofs.Any.{any-same, any-one}
+use Rattle.laws.proofs.Any.{any-same, any-one, any-more}
 use Rattle.laws.proofs.Orders.{lt-or-le, same-or-not}
+use Rattle.laws.proofs.Truths.{or-false}
 use Rattle.laws.proofs.Words.{wordOf-same, wordOf-none}
 use Rattle.matrices.specs.Matrix.{at, matrixOf}
 use Rattle.matrices.specs.Shapes.{folded}
 use Rattle.matrices.proofs.Rows.{at-matrix, matrix-is, matrix-same, set-matrix, put, put-same, put-other}
 
-abbrev pub choose : Bool → Bool → Bool → Bool
-choose true a b = a
-choose false a b = b
-
 -- the rows below s are folded into the first k: those from k to s are empty, and those from s on as they were
 abbrev pub partly : ℕ → ℕ → List ℕ → ℕ → ℕ → Bool
 partly k s m r c = choose (ltb r k) (anyBelow s (λ t. eqb (t % k) r && at m t c)) (leb s r && at m r c)
-
-any-more : (n : ℕ) (p : ℕ → Bool) → anyBelow (n + 1) p ≡ (anyBelow n p || p n)
-unfolding anyBelow
-any-more n p = ap (λ (x : ℕ). anyBelow x p) (add-one n)
-
-or-false : (b : Bool) → (b || false) ≡ b
-or-false true = refl
-or-false false = refl
 
 module _ (m : List ℕ) (k : ℕ) where
   -- the rows below s that fall on row r

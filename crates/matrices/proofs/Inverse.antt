@@ -10,8 +10,8 @@ use Rattle.laws.proofs.Orders.{lt-or-le}
 use Rattle.laws.proofs.Words.{has-wordOf, wordOf-lt, wordOf-same}
 use Rattle.matrices.specs.Listing.{listFrom, inList}
 use Rattle.matrices.specs.Matrix.{inWindow, matrixOf}
-use Rattle.matrices.specs.Parts.{windowAt, surprisesAt}
-use Rattle.matrices.specs.Shapes.{joinedAt, Lawful, Sorted, windows, surprising, surprises}
+use Rattle.matrices.specs.Parts.{windowAt, surprisesAt, surpriseWord, surprisePairs}
+use Rattle.matrices.specs.Shapes.{joinedAt, Lawful, Sorted, windows, surprising}
 use Rattle.matrices.specs.Source.{expanded}
 use Rattle.matrices.proofs.Joined.{join-expanded}
 use Rattle.matrices.proofs.Listed.{list-same}
@@ -27,26 +27,30 @@ use lib.ListN.{length, getD, length-map}
 use lib.Seq.{ext-getD}
 
 -- the surprises of row r are those of the list
-listed : (o : ℕ) (m : List ℕ) (r c : ℕ) → r < length m → c < 64 → inList (surprises o m) (64 * r + c) ≡ has (surprisesAt o (getD m r 0)) c
-unfolding surprises
-listed o m r c h l =
+pub listed-at : (wide : Bool) (o : ℕ) (m : List ℕ) (r c : ℕ) → r < length m → c < 64 → inList (surprisePairs wide o m) (64 * r + c) ≡ has (surpriseWord wide o (getD m r 0)) c
+unfolding surprisePairs
+listed-at wide o m r c h l =
     let d : (64 * r + c) / 64 ≡ r = omega arith in
     let e : (64 * r + c) % 64 ≡ c = omega arith in
-    in-list (64 * length m) (surprising o m) (64 * r + c)
-    ∙ ap (λ (t : Bool). t && surprising o m (64 * r + c)) (lt-ltb (64 * r + c) (64 * length m) (omega arith))
-    ∙ ap₂ (λ (x y : ℕ). has (surprisesAt o (getD m x 0)) y) d e
+    in-list (64 * length m) (λ x. has (surpriseWord wide o (getD m (x / 64) 0)) (x % 64)) (64 * r + c)
+    ∙ ap (λ (t : Bool). t && has (surpriseWord wide o (getD m ((64 * r + c) / 64) 0)) ((64 * r + c) % 64)) (lt-ltb (64 * r + c) (64 * length m) (omega arith))
+    ∙ ap₂ (λ (x y : ℕ). has (surpriseWord wide o (getD m x 0)) y) d e
 
 -- what a matrix is split into stands for the matrix
-pub expand-split : (o : ℕ) (m : List ℕ) → ((r : ℕ) → getD m r 0 < 2 ^ 64) → matrixOf (length m) (expanded o (windows o m) (surprises o m)) ≡ m
+pub expand-split : (o : ℕ) (m : List ℕ) → ((r : ℕ) → getD m r 0 < 2 ^ 64) → matrixOf (length m) (expanded o (windows o m) (surprisePairs true o m)) ≡ m
 expand-split o m w =
     sym
-    (matrix-is m (length m) (expanded o (windows o m) (surprises o m)) refl w
+    (matrix-is m (length m) (expanded o (windows o m) (surprisePairs true o m)) refl w
     (λ r c h l.
     let v = getD m r 0 in
     sym
-    (ap₂ (λ (x : ℕ) (t : Bool). (inWindow o c && has x (c - o)) || (not (inWindow o c) && differs t (ltb c o))) (getD-map (windowAt o) m r h) (listed o m r c h l)
+    (ap₂ (λ (x : ℕ) (t : Bool). (inWindow o c && has x (c - o)) || (not (inWindow o c) && differs t (ltb c o))) (getD-map (windowAt o) m r h) (listed-at true o m r c h l)
     ∙ sym (has-wordOf 64 (λ d. (inWindow o d && has (windowAt o v) (d - o)) || (not (inWindow o d) && differs (has (surprisesAt o v) d) (ltb d o))) c l)
     ∙ ap (λ (x : ℕ). has x c) (join-split o v (w r)))))
+
+-- without a window, what a matrix is split into is the list of its pairs
+pub expand-list : (o : ℕ) (m : List ℕ) → ((r : ℕ) → getD m r 0 < 2 ^ 64) → matrixOf (length m) (λ r c. inList (surprisePairs false o m) (64 * r + c)) ≡ m
+expand-list o m w = sym (matrix-is m (length m) (λ r c. inList (surprisePairs false o m) (64 * r + c)) refl w (λ r c h l. sym (listed-at false o m r c h l)))
 
 -- lawful parts: for each row a byte with no bit past column 63, and an increasing list of pairs below 64·k, none of them in the window's columns
 pub record Parts (o k : ℕ) (window ps : List ℕ) : Type 0 where
@@ -96,8 +100,8 @@ module _ (o k : ℕ) (window ps : List ℕ) (ok : Parts o k window ps) where
       ap (λ (w : ℕ). has w (x % 64)) (ap (surprisesAt o) (row r b) ∙ surprises-join o (getD window r 0) (rowOf r) (lawful r))
       ∙ has-wordOf 64 (λ c. inList ps (64 * r + c)) (x % 64) l ∙ ap (inList ps) e
 
-  pub surprises-expand : surprises o m ≡ ps
-  unfolding surprises
+  pub surprises-expand : surprisePairs true o m ≡ ps
+  unfolding surprisePairs
   surprises-expand =
       ap (λ (n : ℕ). listFrom 0 (64 * n) (surprising o m)) (length-matrix k (expanded o window ps))
       ∙ list-same 0 (64 * k) (surprising o m) (inList ps)

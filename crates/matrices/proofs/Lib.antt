@@ -10,7 +10,10 @@ pub mod SourceRows
 pub mod Joined
 pub mod Listed
 pub mod ListTurn
+pub mod Rewriting
 pub mod SplitTurn
+pub mod FirstColumn
 pub mod Members
 pub mod Inverse
+pub mod Bridges
 pub mod Fits

@@ -13,6 +13,7 @@ use lib.Count.{trailingZeros}
 use Rattle.laws.specs.Columns.{has, differs}
 use Rattle.laws.proofs.Columns.{has-xor, has-one, has-zero}
 use Rattle.laws.proofs.Orders.{same-or-not}
+use Rattle.laws.proofs.Truths.{and-true, and-false}
 use Rattle.laws.proofs.Trailing.{trailing-at, trailing-below, trailing-lt}
 use Rattle.matrices.specs.Listing.{only, listFrom}
 use Rattle.matrices.specs.Shapes.{rowPairs}
@@ -53,19 +54,11 @@ list-first a (suc n) p t h e z =
     (sym
     (ap₂ (λ (l : List ℕ) (b : Bool). l ++ only b (a + n))
     (list-none a n (λ x. p x && not (eqb x (a + t))) (λ c l. ap (λ (b : Bool). b && not (eqb (a + c) (a + t))) (z c (omega arith))))
-    (ap (λ (b : Bool). p (a + n) && not b) (eq-eqb (a + n) (a + t) (sym s)) ∙ off (p (a + n))))))
+    (ap (λ (b : Bool). p (a + n) && not b) (eq-eqb (a + n) (a + t) (sym s)) ∙ and-false (p (a + n))))))
     (λ (l : t < n).
     ap₂ (λ (l : List ℕ) (b : Bool). l ++ only b (a + n)) (list-first a n p t l e z)
-    (sym (ap (λ (b : Bool). p (a + n) && not b) (ne-eqb (a + n) (a + t) (omega arith)) ∙ on (p (a + n)))))
+    (sym (ap (λ (b : Bool). p (a + n) && not b) (ne-eqb (a + n) (a + t) (omega arith)) ∙ and-true (p (a + n)))))
     (eq-or-lt-of-le (le-of-suc-le-suc h))
-  where
-    off : (t : Bool) → (t && false) ≡ false
-    off true = refl
-    off false = refl
-
-    on : (t : Bool) → (t && true) ≡ t
-    on true = refl
-    on false = refl
 
 -- a word's lowest column, and the word without it
 differs-out : (h : Bool) (b : Bool) → (b ≡ true → h ≡ true) → differs h b ≡ (h && not b)

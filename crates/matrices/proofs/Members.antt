@@ -13,20 +13,13 @@ use lib.Seq.{take-suc, take-all}
 use Rattle.laws.specs.Below.{anyBelow}
 use Rattle.laws.proofs.Any.{any-of, any-none}
 use Rattle.laws.proofs.Orders.{lt-or-le, same-or-not}
+use Rattle.laws.proofs.Truths.{or-false, or-assoc, and-true, and-false}
 use Rattle.matrices.specs.Listing.{only, listFrom, inList}
 use Rattle.matrices.specs.Shapes.{Sorted, Between}
 
-or-off : (b : Bool) → (b || false) ≡ b
-or-off true = refl
-or-off false = refl
-
-or-assoc : (a b c : Bool) → ((a || b) || c) ≡ (a || (b || c))
-or-assoc true b c = refl
-or-assoc false b c = refl
-
 any-shift : (n : ℕ) (f : ℕ → Bool) → anyBelow (suc n) f ≡ (f 0 || anyBelow n (λ i. f (suc i)))
 unfolding anyBelow
-any-shift zero f = sym (or-off (f 0))
+any-shift zero f = sym (or-false (f 0))
 any-shift (suc n) f = ap (λ (b : Bool). b || f (suc n)) (any-shift n f) ∙ or-assoc (f 0) (anyBelow n (λ i. f (suc i))) (f (suc n))
 
 in-nil : (x : ℕ) → inList [] x ≡ false
@@ -44,16 +37,8 @@ in-append (y ∷ l) r x =
     ∙ ap (λ (b : Bool). b || inList r x) (sym (in-cons y l x))
 
 in-only : (b : Bool) (y x : ℕ) → inList (only b y) x ≡ (b && eqb y x)
-in-only true y x = in-cons y [] x ∙ ap (λ (b : Bool). eqb y x || b) (in-nil x) ∙ or-off (eqb y x)
+in-only true y x = in-cons y [] x ∙ ap (λ (b : Bool). eqb y x || b) (in-nil x) ∙ or-false (eqb y x)
 in-only false y x = in-nil x
-
-and-on : (b : Bool) → (b && true) ≡ b
-and-on true = refl
-and-on false = refl
-
-and-off : (b : Bool) → (b && false) ≡ false
-and-off true = refl
-and-off false = refl
 
 -- the members of the list of those below n that pass the test are those below n that pass the test
 pub in-list : (n : ℕ) (p : ℕ → Bool) (x : ℕ) → inList (listFrom 0 n p) x ≡ (ltb x n && p x)
@@ -64,10 +49,10 @@ in-list (suc n) p x =
     ∙ ap₂ _||_ (in-list n p x) (ap (λ (y : ℕ). inList (only (p y) y) x) (zero-add n) ∙ in-only (p n) n x)
     ∙ ⊎-elim
     (λ (e : x ≡ n).
-    ap₂ (λ (a b : Bool). (a && p x) || (p n && b)) (le-ltb x n (omega arith)) (eq-eqb n x (sym e)) ∙ and-on (p n) ∙ ap p (sym e)
+    ap₂ (λ (a b : Bool). (a && p x) || (p n && b)) (le-ltb x n (omega arith)) (eq-eqb n x (sym e)) ∙ and-true (p n) ∙ ap p (sym e)
     ∙ sym (ap (λ (b : Bool). b && p x) (lt-ltb x (suc n) (omega arith))))
     (λ (k : x ≡ n → ⊥).
-    ap (λ (b : Bool). (ltb x n && p x) || (p n && b)) (ne-eqb n x (λ q. k (sym q))) ∙ ap (λ (b : Bool). (ltb x n && p x) || b) (and-off (p n)) ∙ or-off (ltb x n && p x)
+    ap (λ (b : Bool). (ltb x n && p x) || (p n && b)) (ne-eqb n x (λ q. k (sym q))) ∙ ap (λ (b : Bool). (ltb x n && p x) || b) (and-false (p n)) ∙ or-false (ltb x n && p x)
     ∙ ap (λ (b : Bool). b && p x)
     (⊎-elim (λ (l : x < n). lt-ltb x n l ∙ sym (lt-ltb x (suc n) (omega arith))) (λ (l : n ≤ x). le-ltb x n l ∙ sym (le-ltb x (suc n) (omega arith))) (lt-or-le x n)))
     (same-or-not x n)

@@ -5,23 +5,19 @@ use mathlib.Core.Bool.{Bool, true, false, _&&_, _||_}
 use mathlib.Core.List.{List}
 use Prim.Native.Nat.{ℕ, _+_, _%_, _^_, _≤_, _<_}
 use native.Mathlib.Nat.{mod-lt}
-use native.Mathlib.Numerals.{add-one}
 use native.Mathlib.Omega.{arith}
 use borrow.Author.Tests.{eq-eqb, ne-eqb, lt-ltb}
 use lib.Dec.{eqb, ltb}
 use lib.ListN.{length, getD, set}
 use Rattle.laws.specs.Below.{anyBelow}
 use Rattle.laws.specs.Columns.{wordOf}
+use Rattle.laws.proofs.Any.{any-more}
 use Rattle.laws.proofs.Orders.{same-or-not}
 use Rattle.laws.proofs.Truths.{or-false}
 use Rattle.laws.proofs.Words.{wordOf-same}
 use Rattle.matrices.specs.Matrix.{at, matrixOf}
 use Rattle.matrices.specs.Shapes.{merged}
 use Rattle.matrices.proofs.Rows.{at-matrix, matrix-is, matrix-same, set-matrix, put, put-same, put-other}
-
-any-more : (n : ℕ) (p : ℕ → Bool) → anyBelow (n + 1) p ≡ (anyBelow n p || p n)
-unfolding anyBelow
-any-more n p = ap (λ (x : ℕ). anyBelow x p) (add-one n)
 
 none : (a b : Bool) → a ≡ (a || (b && false))
 none true b = refl

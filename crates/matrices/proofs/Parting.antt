@@ -1,7 +1,7 @@
 -- A word split at the offset o into a window byte and a surprise word, and put together again. Assumes nothing.
 use mathlib.Core.Path.{_≡_, refl, sym, ap, ap₂, _∙_}
 use mathlib.Core.Logic.{⊎-elim}
-use mathlib.Core.Bool.{Bool, true, false, not, _&&_, _||_, false≢true}
+use mathlib.Core.Bool.{Bool, true, false, not, _&&_, _||_}
 use Prim.Native.Nat.{ℕ, _+_, _-_, _^_, _≤_, _<_}
 use native.Mathlib.Omega.{arith}
 use borrow.Author.Tests.{lt-ltb, le-ltb, le-leb, lt-leb, leb-true, ltb-true}
@@ -9,6 +9,7 @@ use lib.Dec.{leb, ltb}
 use Rattle.laws.specs.Columns.{has, wordOf, differs}
 use Rattle.laws.proofs.Columns.{has-out, word-ext}
 use Rattle.laws.proofs.Orders.{lt-or-le}
+use Rattle.laws.proofs.Truths.{and-left, and-right, and-true, and-false, or-false}
 use Rattle.laws.proofs.Words.{wordOf-lt, has-wordOf, word-is, wordOf-same}
 use Rattle.matrices.specs.Matrix.{inWindow}
 use Rattle.matrices.specs.Parts.{windowAt, surprisesAt}
@@ -24,25 +25,13 @@ flip-flip false false = refl
 window-col : (o i : ℕ) → i < 8 → inWindow o (o + i) ≡ true
 window-col o i h = rw (le-leb o (o + i) (omega arith), lt-ltb (o + i) (o + 8) (omega arith)) refl
 
-window-from : (o c : ℕ) → inWindow o c ≡ true → (o ≤ c) × (c < o + 8)
-window-from o c e = (leb-true o c (left (leb o c) (ltb c (o + 8)) e), ltb-true c (o + 8) (right (leb o c) (ltb c (o + 8)) e))
-  where
-    left : (a b : Bool) → (a && b) ≡ true → a ≡ true
-    left true b q = refl
-    left false b q = q
-
-    right : (a b : Bool) → (a && b) ≡ true → b ≡ true
-    right true b q = q
-    right false b q = absurd (false≢true q)
+pub window-from : (o c : ℕ) → inWindow o c ≡ true → (o ≤ c) × (c < o + 8)
+window-from o c e = (leb-true o c (and-left (leb o c) (ltb c (o + 8)) e), ltb-true c (o + 8) (and-right (leb o c) (ltb c (o + 8)) e))
 
 -- what the three words have at a column: in the window, and out of it
 module _ (o : ℕ) where
   joined-in : (b s c : ℕ) → c < 64 → inWindow o c ≡ true → has (joinedAt o b s) c ≡ has b (c - o)
-  joined-in b s c l e = has-wordOf 64 _ c l ∙ rw e (drop (has b (c - o)))
-    where
-      drop : (t : Bool) → (t || false) ≡ t
-      drop true = refl
-      drop false = refl
+  joined-in b s c l e = has-wordOf 64 _ c l ∙ rw e (or-false (has b (c - o)))
 
   joined-out : (b s c : ℕ) → c < 64 → inWindow o c ≡ false → has (joinedAt o b s) c ≡ differs (has s c) (ltb c o)
   joined-out b s c l e = has-wordOf 64 _ c l ∙ rw e refl
@@ -91,17 +80,9 @@ in-right o c e = le-ltb c o (window-from o c e .0)
 clear-then-flip : (o w c : ℕ) → differs (has w c && not (inWindow o c)) (ltb c o) ≡ (not (inWindow o c) && differs (has w c) (ltb c o))
 clear-then-flip o w c = go (inWindow o c) refl
   where
-    off : (t : Bool) → (t && false) ≡ false
-    off true = refl
-    off false = refl
-
-    on : (t : Bool) → (t && true) ≡ t
-    on true = refl
-    on false = refl
-
     go : (i : Bool) → inWindow o c ≡ i → differs (has w c && not i) (ltb c o) ≡ (not i && differs (has w c) (ltb c o))
-    go true e = ap₂ differs (off (has w c)) (in-right o c e)
-    go false e = ap (λ (t : Bool). differs t (ltb c o)) (on (has w c))
+    go true e = ap₂ differs (and-false (has w c)) (in-right o c e)
+    go false e = ap (λ (t : Bool). differs t (ltb c o)) (and-true (has w c))
 
 pub surprises-steps : (o w : ℕ)
     → wordOf 64 (λ c. differs (has (wordOf 64 (λ d. has w d && not (inWindow o d))) c) (ltb c o)) ≡ surprisesAt o w

@@ -12,6 +12,7 @@ use lib.ListN.{length, getD, set, length-set}
 use lib.Seq.{ext-getD, getD-set-same, getD-set-other}
 use Rattle.laws.specs.Columns.{has, wordOf}
 use Rattle.laws.proofs.Orders.{lt-or-le, same-or-not}
+use Rattle.laws.proofs.Truths.{or-false}
 use Rattle.laws.proofs.Words.{has-wordOf, word-is, wordOf-same}
 use Rattle.matrices.specs.Matrix.{at, matrixOf}
 use Rattle.matrices.specs.Shapes.{withPair}
@@ -53,10 +54,6 @@ put f i p r c = (eqb r i && p c) || (not (eqb r i) && f r c)
 
 pub put-same : (f : ℕ → ℕ → Bool) (i : ℕ) (p : ℕ → Bool) (r c : ℕ) → r ≡ i → put f i p r c ≡ p c
 put-same f i p r c e = rw (eq-eqb r i e) (or-false (p c))
-  where
-    or-false : (b : Bool) → (b || false) ≡ b
-    or-false true = refl
-    or-false false = refl
 
 pub put-other : (f : ℕ → ℕ → Bool) (i : ℕ) (p : ℕ → Bool) (r c : ℕ) → (r ≡ i → ⊥) → put f i p r c ≡ f r c
 put-other f i p r c e = rw (ne-eqb r i e) refl
@@ -83,10 +80,6 @@ set-matrix k f i p h =
     go r b (inl l) y = other r b (omega arith)
     go r b (inr l) (inl g) = other r b (omega arith)
     go r b (inr l) (inr g) = same r b (omega arith)
-
-pub or-false : (b : Bool) → (b || false) ≡ b
-or-false true = refl
-or-false false = refl
 
 -- a list of words is the matrix of what it holds; a row stored into it
 pub matrix-self : (m : List ℕ) → ((r : ℕ) → getD m r 0 < 2 ^ 64) → m ≡ matrixOf (length m) (at m)

@@ -1,6 +1,6 @@
 -- What a union holds: the pairs of all its sources, their rows taken mod k. Assumes nothing.
 use mathlib.Core.Path.{_≡_, refl, sym, ap, ap₂, _∙_, subst}
-use mathlib.Core.Logic.{_⊎_, inl, inr, ⊎-elim}
+use mathlib.Core.Logic.{⊎-elim}
 use mathlib.Core.Bool.{Bool, true, false, _&&_, _||_, false≢true}
 use mathlib.Core.List.{List}
 use Prim.Native.Nat.{ℕ, _*_, _%_, _≤_, _<_}
@@ -12,7 +12,7 @@ use lib.ListN.{length}
 use Rattle.laws.specs.Below.{anyBelow}
 use Rattle.laws.proofs.Any.{any-find, any-of}
 use Rattle.laws.proofs.Orders.{lt-or-le}
-use Rattle.laws.proofs.Truths.{both-true, and-left, and-right}
+use Rattle.laws.proofs.Truths.{both-true, and-left, and-right, or-true, or-left, or-right}
 use Rattle.matrices.specs.Calls.{downTo}
 use Rattle.matrices.specs.Matrix.{at, matrixOf}
 use Rattle.matrices.specs.Shapes.{folded, merged}
@@ -65,17 +65,6 @@ merge-down k n s size f src l h z =
   where
     m : List ℕ
     m = matrixOf size (downTo k n f)
-
-    or-true : (a b : Bool) → (a || b) ≡ true → (a ≡ true) ⊎ (b ≡ true)
-    or-true true b e = inl refl
-    or-true false b e = inr e
-
-    or-right : (a b : Bool) → b ≡ true → (a || b) ≡ true
-    or-right true b e = refl
-    or-right false b e = e
-
-    or-left : (a b : Bool) → a ≡ true → (a || b) ≡ true
-    or-left a b e = ap (λ (x : Bool). x || b) e
 
     below : (r c : ℕ) (f : ℕ → ℕ → Bool) (n : ℕ) → downTo k n f r c ≡ true → ltb r k ≡ true
     below r c f n e = and-left (ltb r k) (anyBelow n (λ t. eqb (t % k) r && f t c)) e

@@ -1,8 +1,10 @@
 -- A refusal is told as one, and keeps what was lent. Assumes nothing.
 use mathlib.Core.Path.{_≡_, refl}
+use mathlib.Core.Bool.{Bool, true, false}
 use mathlib.Core.List.{List}
 use Prim.Native.Nat.{ℕ}
 use native.Mathlib.Omega.{arith}
+use Rattle.laws.specs.Choose.{choose}
 use Rattle.refusals.specs.Outcome.{Outcome, accepted, refused, stopped, ifAccepted, andThen}
 use Rattle.refusals.specs.Told.{told}
 use Rattle.refusals.specs.declared.Refusal.{Refusal}
@@ -33,3 +35,9 @@ pub then-accepted : (first more : Outcome) (values : List ℕ) → andThen first
 then-accepted (accepted own) more values e = ((own, refl), e)
 then-accepted (refused number place) more values e = let z : _≡_ {A = ℕ} 0 1 = cc in absurd (omega arith)
 then-accepted (stopped number place bit) more values e = let z : _≡_ {A = ℕ} 0 1 = cc in absurd (omega arith)
+
+-- an accepted chain did not stop at its first test
+pub took : (b : Bool) (a : Outcome) (number place : ℕ) (values : List ℕ) → choose b (refused number place) a ≡ accepted values
+    → (b ≡ false) × (a ≡ accepted values)
+took true a number place values e = let z : _≡_ {A = ℕ} 0 1 = cc in absurd (omega arith)
+took false a number place values e = (refl, e)

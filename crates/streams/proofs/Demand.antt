@@ -11,11 +11,10 @@ use lib.Pow.{pow-mono}
 use Rattle.laws.specs.Choose.{choose}
 use Rattle.refusals.specs.Outcome.{Outcome, accepted, refused, stopped, ifAccepted, andThen}
 use Rattle.refusals.specs.Units.{wordsFor}
-use Rattle.refusals.proofs.Refusing.{then-accepted}
+use Rattle.refusals.proofs.Refusing.{then-accepted, took}
 use Rattle.numbers.specs.Calls.{outside}
 use Rattle.books.specs.Calls.{checkOf, checkTableOf}
 use Rattle.books.proofs.Accepted.{table-values, table-checks}
-use Rattle.books.proofs.Verdicts.{took}
 use Rattle.pair_lists.specs.Lists.{pairsJudged}
 use Rattle.streams.specs.Codes.{total, pack}
 use Rattle.streams.specs.Written.{pairsCodes, pairsBits, wordsOf}

@@ -11,7 +11,7 @@ use lib.ListN.{length, getD, drop}
 use lib.Seq.{drop-cons}
 use Rattle.laws.proofs.Orders.{same-or-not}
 use Rattle.refusals.specs.Outcome.{accepted}
-use Rattle.books.proofs.Verdicts.{took}
+use Rattle.refusals.proofs.Refusing.{took}
 use Rattle.pair_lists.specs.Lists.{judgedFrom, pairsJudged}
 use Rattle.streams.specs.Written.{predicted}
 

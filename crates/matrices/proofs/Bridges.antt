@@ -1,0 +1,66 @@
+-- From the definitions of the parts to what code computes. Assumes nothing.
+use mathlib.Core.Path.{_≡_, refl, sym, ap, ap₂, _∙_}
+use mathlib.Core.Bool.{Bool, true, false}
+use mathlib.Core.List.{List, [], _∷_, _++_}
+use Prim.Native.Nat.{ℕ, zero, suc, _+_, _*_, _/_, _%_, _^_, _<_}
+use native.Mathlib.Nat.{zero-add, mod-lt}
+use native.Mathlib.Omega.{arith}
+use lib.ListN.{length, getD, length-append}
+use lib.Pow.{pow-pos}
+use Rattle.laws.specs.Below.{one, sumBelow, countBelow}
+use Rattle.laws.specs.Columns.{has, wordOf}
+use Rattle.laws.proofs.Columns.{has-low, has-shr}
+use Rattle.laws.proofs.Ones.{count-same}
+use Rattle.laws.proofs.Sums.{sum-split}
+use Rattle.laws.proofs.Words.{word-is}
+use Rattle.matrices.specs.Listing.{only, listFrom}
+use Rattle.matrices.specs.Matrix.{at, coupons}
+use Rattle.matrices.specs.Parts.{windowAt, surprisePairs}
+use Rattle.matrices.specs.Shapes.{surprises}
+
+-- the window byte is (word >> o) mod 256
+pub window-shift : (o w : ℕ) → windowAt o w ≡ w / 2 ^ o % 256
+window-shift o w =
+    sym (word-is 8 (w / 2 ^ o % 2 ^ 8) (λ i. has w (o + i)) (mod-lt (w / 2 ^ o) (pow-pos 8)) (λ i l. has-low (w / 2 ^ o) 8 i l ∙ has-shr w o i))
+
+-- with a window, the list is that of the surprises
+pub pairs-surprises : (o : ℕ) (m : List ℕ) → surprisePairs true o m ≡ surprises o m
+unfolding surprisePairs surprises
+pairs-surprises o m = refl
+
+-- without a window, it is the list of all pairs, whatever the offset
+pub pairs-all : (o : ℕ) (m : List ℕ) → surprisePairs false o m ≡ listFrom 0 (64 * length m) (λ x. at m (x / 64) (x % 64))
+unfolding surprisePairs
+pairs-all o m = refl
+
+-- a list is as long as the numbers that pass its test are many
+pub length-list : (n : ℕ) (p : ℕ → Bool) → length (listFrom 0 n p) ≡ countBelow n p
+unfolding listFrom sumBelow
+length-list zero p = refl
+length-list (suc n) p =
+    length-append (listFrom 0 n p) (only (p (0 + n)) (0 + n))
+    ∙ ap₂ _+_ (length-list n p) (ap (λ (x : ℕ). length (only (p x) x)) (zero-add n) ∙ length-only (p n) n)
+  where
+    length-only : (b : Bool) (x : ℕ) → length (only b x) ≡ one b
+    length-only true x = refl
+    length-only false x = refl
+
+-- pairs are counted row by row
+pub count-rows : (k : ℕ) (f : ℕ → ℕ → Bool) → countBelow (64 * k) (λ x. f (x / 64) (x % 64)) ≡ sumBelow k (λ r. countBelow 64 (f r))
+unfolding sumBelow
+count-rows zero f = refl
+count-rows (suc k) f =
+    let e : 64 * suc k ≡ 64 * k + 64 = omega arith in
+    ap (λ (n : ℕ). countBelow n (λ x. f (x / 64) (x % 64))) e
+    ∙ sum-split (64 * k) 64 (λ x. one (f (x / 64) (x % 64)))
+    ∙ ap₂ _+_ (count-rows k f)
+    (count-same 64 (λ c. f ((64 * k + c) / 64) ((64 * k + c) % 64)) (f k)
+    (λ c l.
+    let q : (64 * k + c) / 64 ≡ k = omega arith in
+    let s : (64 * k + c) % 64 ≡ c = omega arith in
+    ap₂ f q s))
+
+-- the list of all pairs is as long as the coupons are many
+pub pairs-count : (o : ℕ) (m : List ℕ) → length (surprisePairs false o m) ≡ coupons m
+unfolding coupons
+pairs-count o m = ap length (pairs-all o m) ∙ length-list (64 * length m) (λ x. at m (x / 64) (x % 64)) ∙ count-rows (length m) (at m)
