@@ -9,18 +9,25 @@ use Rattle.laws.specs.Below.{countBelow, sumBelow}
 use Rattle.laws.proofs.Ones.{ones-count}
 use Rattle.matrices.specs.Matrix.{at, coupons}
 
+-- a sum over nothing, and one summand more
+pub sum-none : (f : ℕ → ℕ) → sumBelow 0 f ≡ 0
+unfolding sumBelow
+sum-none f = refl
+
+pub sum-more : (n : ℕ) (f : ℕ → ℕ) → sumBelow (n + 1) f ≡ sumBelow n f + f n
+unfolding sumBelow
+sum-more n f = ap (λ (x : ℕ). sumBelow x f) (add-one n)
+
 -- the pairs in the first i rows
 abbrev pub counted : List ℕ → ℕ → ℕ
 counted m i = sumBelow i (λ r. countBelow 64 (at m r))
 
 pub counted-none : (m : List ℕ) → counted m 0 ≡ 0
-unfolding sumBelow
-counted-none m = refl
+counted-none m = sum-none (λ r. countBelow 64 (at m r))
 
 pub counted-more : (m : List ℕ) (i : ℕ) → getD m i 0 < 2 ^ 64 → counted m (i + 1) ≡ counted m i + ones (getD m i 0)
-unfolding sumBelow
 counted-more m i h =
-    ap (λ (n : ℕ). counted m n) (add-one i) ∙ ap (λ (x : ℕ). counted m i + x) (sym (ones-count 64 (getD m i 0) h))
+    sum-more i (λ r. countBelow 64 (at m r)) ∙ ap (λ (x : ℕ). counted m i + x) (sym (ones-count 64 (getD m i 0) h))
 
 pub counted-all : (m : List ℕ) → counted m (length m) ≡ coupons m
 unfolding coupons

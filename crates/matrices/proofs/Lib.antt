@@ -16,4 +16,8 @@ pub mod FirstColumn
 pub mod Members
 pub mod Inverse
 pub mod Bridges
+pub mod Judged
+pub mod CouponsHeld
+pub mod LateReserved
+pub mod Places
 pub mod Fits

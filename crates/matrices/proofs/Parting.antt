@@ -22,7 +22,7 @@ flip-flip false true = refl
 flip-flip false false = refl
 
 -- a column in the window, by its place there
-window-col : (o i : ℕ) → i < 8 → inWindow o (o + i) ≡ true
+pub window-col : (o i : ℕ) → i < 8 → inWindow o (o + i) ≡ true
 window-col o i h = rw (le-leb o (o + i) (omega arith), lt-ltb (o + i) (o + 8) (omega arith)) refl
 
 pub window-from : (o c : ℕ) → inWindow o c ≡ true → (o ≤ c) × (c < o + 8)
