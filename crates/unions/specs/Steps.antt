@@ -1,12 +1,65 @@
--- How private contracts say it: work half done. Nothing here has to be believed. Assumes nothing.
-use Prim.Native.Nat.{ℕ, _/_, _%_}
-use mathlib.Core.Bool.{Bool, _&&_, _||_}
-use mathlib.Core.List.{List}
-use lib.Dec.{eqb}
-use lib.ListN.{getD}
+-- How private contracts say it: what is judged so far, and work half done. Nothing here has to be believed. Assumes nothing.
+use mathlib.Core.Path.{_≡_}
+use Prim.Native.Nat.{ℕ, _*_, _/_, _%_, _^_, _≤_}
+use mathlib.Core.Bool.{Bool, true, not, _&&_, _||_}
+use mathlib.Core.List.{List, []}
+use lib.Dec.{eqb, ltb}
+use lib.ListN.{length, getD}
 use Rattle.laws.specs.Below.{anyBelow}
-use Rattle.matrices.specs.Matrix.{at}
+use Rattle.laws.specs.Choose.{choose}
+use Rattle.refusals.specs.Outcome.{Outcome, accepted, refused}
+use Rattle.refusals.specs.Told.{told}
+use Rattle.numbers.specs.Calls.{outside}
+use Rattle.numbers.specs.Numbers.{offsetAt}
+use Rattle.pair_lists.specs.Lists.{pairsJudged}
+use Rattle.matrices.specs.Calls.{wrongRows}
+use Rattle.matrices.specs.Matrix.{at, matrixOf, coupons, reserved}
+use Rattle.matrices.specs.Source.{hasWindow, held, wrongWindow}
+use Rattle.unions.specs.declared.judging.Plan.{Plan}
+use Rattle.unions.specs.declared.judging.Plan.the-variants as plan
+use Rattle.unions.specs.declared.judging.Shape.{Shape}
 
 -- m, and the first n pairs of a list, their rows taken mod k
 abbrev pub pairsSet : ℕ → List ℕ → List ℕ → ℕ → ℕ → ℕ → Bool
 pairsSet k m ps n r c = at m r c || anyBelow n (λ i. eqb (getD ps i 0 / 64 % k) r && eqb c (getD ps i 0 % 64))
+
+-- 1, and 17 where the coupons exceed 64k
+unfoldable pub shapeJudged : ℕ → ℕ → Outcome
+shapeJudged lg c = choose (outside lg) (refused 1 0) (choose (ltb (64 * 2 ^ lg) c) (refused 17 0) (accepted []))
+
+-- 1, 17 where the coupons exceed 64k, 2
+unfoldable pub lentJudged : ℕ → List ℕ → ℕ → ℕ → List ℕ → Outcome
+lentJudged lg m from c window =
+    choose (outside from || outside lg) (refused 1 0)
+    (choose (ltb (64 * 2 ^ from) c) (refused 17 0) (choose (wrongRows lg m || wrongWindow (2 ^ from) c window) (refused 2 0) (accepted [])))
+
+-- the shape of a source with so many coupons
+pub record ShapeOf (lg c : ℕ) (s : Shape) : Type 0 where
+  pub low : 4 ≤ lg
+  pub high : lg ≤ 26
+  pub most : c ≤ 64 * 2 ^ lg
+  pub wide : s .wide ≡ hasWindow (2 ^ lg) c
+  pub offset : s .offset ≡ offsetAt (2 ^ lg) c
+  pub small : s .offset ≤ 61
+
+-- a plan is the refusal of the judgement, or the shape where that accepts
+abbrev pub PlannedBy : Outcome → ℕ → ℕ → Plan → Type 0
+PlannedBy o lg c (plan.Take s) = (o ≡ accepted []) × ShapeOf lg c s
+PlannedBy o lg c (plan.Refused why) = told why ≡ o
+
+-- a source with a window, whose pairs are judged
+pub record WideSource (lg c o : ℕ) (window ps : List ℕ) : Type 0 where
+  pub low : 4 ≤ lg
+  pub high : lg ≤ 26
+  pub most : c ≤ 64 * 2 ^ lg
+  pub wide : hasWindow (2 ^ lg) c ≡ true
+  pub offset : o ≡ offsetAt (2 ^ lg) c
+  pub small : o ≤ 61
+  pub long : length window ≡ 2 ^ lg
+  pub pairs : pairsJudged (2 ^ lg) ps ≡ accepted []
+
+-- the late 10, then 17
+unfoldable pub heldJudged : ℕ → ℕ → List ℕ → List ℕ → Outcome
+heldJudged lg c window ps =
+    choose (reserved lg (matrixOf (2 ^ lg) (held (2 ^ lg) c window ps))) (refused 10 67108863)
+    (choose (not (eqb (coupons (matrixOf (2 ^ lg) (held (2 ^ lg) c window ps))) c)) (refused 17 0) (accepted []))

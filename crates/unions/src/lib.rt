@@ -7,6 +7,7 @@ ghost use Rattle.unions.specs.Told.{toldCount, toldUnion};
 
 mod clearing;
 mod counting;
+mod judging;
 mod merging;
 mod words;
 
