@@ -1,14 +1,14 @@
 -- From the definitions of the parts to what code computes. Assumes nothing.
 use mathlib.Core.Path.{_≡_, refl, sym, ap, ap₂, _∙_}
 use mathlib.Core.Bool.{Bool, true, false}
-use mathlib.Core.List.{List, [], _∷_, _++_}
-use Prim.Native.Nat.{ℕ, zero, suc, _+_, _*_, _/_, _%_, _^_, _<_}
+use mathlib.Core.List.{List}
+use Prim.Native.Nat.{ℕ, zero, suc, _+_, _*_, _/_, _%_, _^_}
 use native.Mathlib.Nat.{zero-add, mod-lt}
 use native.Mathlib.Omega.{arith}
-use lib.ListN.{length, getD, length-append}
+use lib.ListN.{length, length-append}
 use lib.Pow.{pow-pos}
 use Rattle.laws.specs.Below.{one, sumBelow, countBelow}
-use Rattle.laws.specs.Columns.{has, wordOf}
+use Rattle.laws.specs.Columns.{has}
 use Rattle.laws.proofs.Columns.{has-low, has-shr}
 use Rattle.laws.proofs.Ones.{count-same}
 use Rattle.laws.proofs.Sums.{sum-split}

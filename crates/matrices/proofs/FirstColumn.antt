@@ -1,5 +1,5 @@
 -- The loop that finds the first interesting column: surprise words ORed, row after row. Assumes nothing.
-use mathlib.Core.Path.{_≡_, refl, sym, ap, ap₂, _∙_}
+use mathlib.Core.Path.{_≡_, refl, sym, ap, _∙_}
 use mathlib.Core.Bool.{Bool, true, false, _||_}
 use mathlib.Core.List.{List, [], _∷_, _++_, map, map-append}
 use Prim.Native.Nat.{ℕ, zero, suc, _+_, _^_, _≤_, _<_}
@@ -9,7 +9,7 @@ use lib.Bits.{bitOr, or-lt}
 use lib.Count.{trailingZeros, trailing-le}
 use lib.ListN.{length, getD, take}
 use lib.Pow.{pow-pos}
-use lib.Seq.{take-suc, take-length, getD-take}
+use lib.Seq.{take-suc, take-length}
 use Rattle.laws.specs.Columns.{has}
 use Rattle.laws.proofs.Columns.{has-or, has-zero, word-ext}
 use Rattle.laws.proofs.Truths.{or-false, or-assoc}

@@ -1,7 +1,7 @@
 -- The loop that folds a matrix to k rows: where it starts, a turn, and where it ends. Assumes nothing.
 use mathlib.Core.Path.{_≡_, refl, sym, ap, ap₂, _∙_}
 use mathlib.Core.Logic.{⊎-elim}
-use mathlib.Core.Bool.{Bool, true, false, _&&_, _||_}
+use mathlib.Core.Bool.{Bool, false, _&&_, _||_}
 use mathlib.Core.List.{List}
 use Prim.Native.Nat.{ℕ, _+_, _%_, _^_, _≤_, _<_}
 use native.Mathlib.Nat.{mod-lt, mod-eq-of-lt}
@@ -29,13 +29,13 @@ module _ (m : List ℕ) (k : ℕ) where
   abbrev falls : ℕ → ℕ → ℕ → Bool
   falls r c t = eqb (t % k) r && at m t c
 
-  partly-low : (s r c : ℕ) → r < k → partly k s m r c ≡ anyBelow s (falls r c)
+  pub partly-low : (s r c : ℕ) → r < k → partly k s m r c ≡ anyBelow s (falls r c)
   partly-low s r c h = rw (lt-ltb r k h) refl
 
-  partly-past : (s r c : ℕ) → k ≤ r → r < s → partly k s m r c ≡ false
+  pub partly-past : (s r c : ℕ) → k ≤ r → r < s → partly k s m r c ≡ false
   partly-past s r c h l = rw (le-ltb r k h, lt-leb s r l) refl
 
-  partly-rest : (s r c : ℕ) → k ≤ r → s ≤ r → partly k s m r c ≡ at m r c
+  pub partly-rest : (s r c : ℕ) → k ≤ r → s ≤ r → partly k s m r c ≡ at m r c
   partly-rest s r c h l = rw (le-ltb r k h, le-leb s r l) refl
 
   pub fold-start : k ≤ length m → ((r : ℕ) → getD m r 0 < 2 ^ 64) → m ≡ matrixOf (length m) (partly k k m)

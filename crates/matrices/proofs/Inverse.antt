@@ -61,6 +61,13 @@ pub record Parts (o k : ℕ) (window ps : List ℕ) : Type 0 where
   pub inside : (r i : ℕ) → i < 8 → 64 ≤ o + i → has (getD window r 0) i ≡ false
   pub apart : (r c : ℕ) → c < 64 → inWindow o c ≡ true → inList ps (64 * r + c) ≡ false
 
+-- row r of a matrix that is given by its parts
+pub expanded-row : (o k : ℕ) (window ps : List ℕ) (r : ℕ) → r < k
+    → getD (matrixOf k (expanded o window ps)) r 0 ≡ joinedAt o (getD window r 0) (wordOf 64 (λ c. inList ps (64 * r + c)))
+expanded-row o k window ps r h =
+    row-matrix k (expanded o window ps) r h
+    ∙ wordOf-same 64 (expanded o window ps r) _ (λ c l. sym (join-expanded o window ps r (wordOf 64 (λ d. inList ps (64 * r + d))) c refl l) ∙ has-wordOf 64 _ c l)
+
 module _ (o k : ℕ) (window ps : List ℕ) (ok : Parts o k window ps) where
   abbrev m : List ℕ
   m = matrixOf k (expanded o window ps)
@@ -69,9 +76,7 @@ module _ (o k : ℕ) (window ps : List ℕ) (ok : Parts o k window ps) where
   rowOf r = wordOf 64 (λ c. inList ps (64 * r + c))
 
   row : (r : ℕ) → r < k → getD m r 0 ≡ joinedAt o (getD window r 0) (rowOf r)
-  row r h =
-      row-matrix k (expanded o window ps) r h
-      ∙ wordOf-same 64 (expanded o window ps r) _ (λ c l. sym (join-expanded o window ps r (rowOf r) c refl l) ∙ has-wordOf 64 _ c l)
+  row = expanded-row o k window ps
 
   lawful : (r : ℕ) → Lawful o (getD window r 0) (rowOf r)
   lawful r = record {

@@ -5,11 +5,10 @@ use mathlib.Core.Bool.{Bool, true, false, not, _&&_, _||_}
 use mathlib.Core.List.{List, []}
 use Prim.Native.Nat.{ℕ, _+_, _-_, _*_, _^_, _≤_, _<_}
 use native.Mathlib.Omega.{arith}
-use borrow.Author.Tests.{lt-ltb, le-ltb, le-leb, lt-leb, eq-eqb, ne-eqb}
+use borrow.Author.Tests.{lt-ltb, le-ltb, le-leb, lt-leb, ne-eqb}
 use lib.Dec.{eqb, leb, ltb}
 use lib.ListN.{getD}
 use lib.Pow.{pow-pos}
-use Rattle.laws.specs.Choose.{choose}
 use Rattle.laws.specs.Columns.{has, differs}
 use Rattle.laws.proofs.Orders.{lt-or-le, same-or-not}
 use Rattle.laws.proofs.Truths.{and-false, or-false}

@@ -5,7 +5,7 @@ pub mod Rows
 pub mod Folding
 pub mod Counting
 pub mod Merging
-pub mod Union
+pub mod Modulo
 pub mod SourceRows
 pub mod Joined
 pub mod Listed
@@ -20,4 +20,11 @@ pub mod Judged
 pub mod CouponsHeld
 pub mod LateReserved
 pub mod Places
+pub mod Accepting
+pub mod Expanding
+pub mod Lawful
+pub mod MergeWhole
+pub mod SplitLists
+pub mod Answered
+pub mod Undone
 pub mod Fits

@@ -36,7 +36,7 @@ module _ (o : ℕ) where
   joined-out : (b s c : ℕ) → c < 64 → inWindow o c ≡ false → has (joinedAt o b s) c ≡ differs (has s c) (ltb c o)
   joined-out b s c l e = has-wordOf 64 _ c l ∙ rw e refl
 
-  surprises-in : (w c : ℕ) → c < 64 → inWindow o c ≡ true → has (surprisesAt o w) c ≡ false
+  pub surprises-in : (w c : ℕ) → c < 64 → inWindow o c ≡ true → has (surprisesAt o w) c ≡ false
   surprises-in w c l e = has-wordOf 64 _ c l ∙ rw e refl
 
   surprises-out : (w c : ℕ) → c < 64 → inWindow o c ≡ false → has (surprisesAt o w) c ≡ differs (has w c) (ltb c o)

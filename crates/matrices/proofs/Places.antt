@@ -1,10 +1,10 @@
 -- Refusal 14: the pass over the window, and the pass over the pairs; what it means that they find nothing. Assumes nothing.
-use mathlib.Core.Path.{_≡_, refl, sym, ap, ap₂, _∙_, subst}
+use mathlib.Core.Path.{_≡_, refl, sym, ap, ap₂, _∙_}
 use mathlib.Core.Logic.{⊎-elim}
 use mathlib.Core.Bool.{Bool, true, false, not, _&&_, true≢false}
 use mathlib.Core.List.{List, [], _∷_}
 use Prim.Native.Nat.{ℕ, zero, suc, _+_, _-_, _*_, _/_, _%_, _^_, _≤_, _<_}
-use native.Mathlib.Nat.{not-suc-le-zero, le-of-suc-le-suc, div-eq-of-lt, zero-lt-suc}
+use native.Mathlib.Nat.{not-suc-le-zero, le-of-suc-le-suc, zero-lt-suc}
 use native.Mathlib.Numerals.{add-one}
 use native.Mathlib.Omega.{arith}
 use borrow.Author.Tests.{eq-eqb, ne-eqb, eqb-false, le-leb, lt-leb, leb-true, not-true}
@@ -13,14 +13,13 @@ use lib.Dec.{eqb, leb}
 use lib.ListN.{length, getD, drop, drop-of-length-le, List·getD-eq-default}
 use lib.Pow.{shr-le}
 use lib.Seq.{drop-cons}
-use Rattle.laws.specs.Below.{anyBelow}
 use Rattle.laws.specs.Choose.{choose}
 use Rattle.laws.specs.Columns.{has}
 use Rattle.laws.proofs.Any.{any-find, any-of, any-none}
 use Rattle.laws.proofs.Columns.{has-out, has-shr, has-zero}
-use Rattle.laws.proofs.Orders.{lt-or-le, same-or-not}
+use Rattle.laws.proofs.Orders.{lt-or-le}
 use Rattle.laws.proofs.Trailing.{trailing-at, trailing-lt}
-use Rattle.laws.proofs.Truths.{both-true, never-true, and-left, and-right}
+use Rattle.laws.proofs.Truths.{both-true, never-true, and-left, and-right, and-false}
 use Rattle.refusals.specs.Outcome.{Outcome, accepted, refused}
 use Rattle.refusals.proofs.Refusing.{took}
 use Rattle.matrices.specs.Listing.{inList}
@@ -65,6 +64,13 @@ module _ (faulty : ℕ → Bool) (judge : ℕ → List ℕ → Outcome) (none : 
   pass-all i (x ∷ more) f =
       one i x more ∙ ap (λ (b : Bool). choose b (refused 14 i) (judge (suc i) more)) (f 0 (zero-lt-suc _)) ∙ pass-all (suc i) more (λ j h. f (suc j) (omega arith))
 
+  -- and then with no values
+  pass-empty : (i : ℕ) (l own : List ℕ) → judge i l ≡ accepted own → judge i l ≡ accepted []
+  pass-empty i [] own e = none i
+  pass-empty i (x ∷ more) own e =
+      let t = took (faulty x) (judge (suc i) more) 14 i own (sym (one i x more) ∙ e) in
+      one i x more ∙ ap (λ (b : Bool). choose b (refused 14 i) (judge (suc i) more)) (t .0) ∙ pass-empty (suc i) more own (t .1)
+
 -- ---- the window
 
 module _ (o : ℕ) where
@@ -90,6 +96,9 @@ module _ (o : ℕ) where
   pub window-end : (window : List ℕ) (i : ℕ) → Passed (windowJudged o) window i → length window ≤ i → accepted [] ≡ windowJudged o 0 window
   window-end = pass-end (pastColumns o) (windowJudged o) window-none window-one
 
+  pub window-empty : (window own : List ℕ) → windowJudged o 0 window ≡ accepted own → windowJudged o 0 window ≡ accepted []
+  window-empty = pass-empty (pastColumns o) (windowJudged o) window-none window-one 0
+
   -- accepted: no window bit past column 63, in any row
   pub window-inside : (window : List ℕ) → windowJudged o 0 window ≡ accepted [] → (r i : ℕ) → i < 8 → 64 ≤ o + i → has (getD window r 0) i ≡ false
   window-inside window e r i h l =
@@ -109,11 +118,7 @@ module _ (o : ℕ) where
       any-none 8 (λ j. leb 64 (o + j) && has (getD window r 0) j)
       (λ i h.
       ⊎-elim (λ (l : o + i < 64). ap (λ (t : Bool). t && has (getD window r 0) i) (lt-leb 64 (o + i) l))
-      (λ (l : 64 ≤ o + i). ap (λ (t : Bool). leb 64 (o + i) && t) (f r i h l) ∙ off (leb 64 (o + i))) (lt-or-le (o + i) 64)))
-    where
-      off : (t : Bool) → (t && false) ≡ false
-      off true = refl
-      off false = refl
+      (λ (l : 64 ≤ o + i). ap (λ (t : Bool). leb 64 (o + i) && t) (f r i h l) ∙ and-false (leb 64 (o + i))) (lt-or-le (o + i) 64)))
 
   -- up to offset 56 no byte has such a bit
   pub past-none : (b : ℕ) → o ≤ 56 → pastColumns o b ≡ false
@@ -167,6 +172,9 @@ module _ (o : ℕ) where
 
   pub columns-end : (ps : List ℕ) (i : ℕ) → Passed (columnsJudged o) ps i → length ps ≤ i → accepted [] ≡ columnsJudged o 0 ps
   columns-end = pass-end caught (columnsJudged o) columns-none columns-one
+
+  pub columns-empty : (ps own : List ℕ) → columnsJudged o 0 ps ≡ accepted own → columnsJudged o 0 ps ≡ accepted []
+  columns-empty = pass-empty caught (columnsJudged o) columns-none columns-one 0
 
   -- accepted: no listed pair in the window's columns
   pub columns-apart : (ps : List ℕ) → columnsJudged o 0 ps ≡ accepted [] → (r c : ℕ) → c < 64 → inWindow o c ≡ true → inList ps (64 * r + c) ≡ false
