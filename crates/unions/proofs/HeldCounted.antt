@@ -20,23 +20,13 @@ use Rattle.numbers.specs.Numbers.{offsetAt}
 use Rattle.pair_lists.specs.Lists.{pairsJudged}
 use Rattle.matrices.specs.Listing.{inList}
 use Rattle.matrices.specs.Matrix.{matrixOf, coupons, reserved, inWindow}
-use Rattle.matrices.specs.Source.{expanded, sourceSet, hasWindow, held, windowJudged, columnsJudged}
+use Rattle.matrices.specs.Source.{expanded, hasWindow, held, windowJudged, columnsJudged}
+use Rattle.matrices.proofs.Accepting.{held-wide, held-listed, parts-judged}
 use Rattle.matrices.proofs.CouponsHeld.{coupons-wide, coupons-listed}
-use Rattle.matrices.proofs.Inverse.{Parts}
 use Rattle.matrices.proofs.Judged.{judged-sorted, judged-below}
 use Rattle.matrices.proofs.LateReserved.{late-wide}
-use Rattle.matrices.proofs.Places.{window-inside, columns-apart}
+use Rattle.matrices.proofs.Places.{columns-apart}
 use Rattle.unions.specs.Steps.{WideSource}
-
--- the set of a source with a window
-pub held-wide : (k c o : ℕ) (window ps : List ℕ) → hasWindow k c ≡ true → o ≡ offsetAt k c → held k c window ps ≡ expanded o window ps
-unfolding held
-held-wide k c o window ps w e = ap (λ (t : Bool). sourceSet t (offsetAt k c) window ps) w ∙ ap (λ (x : ℕ). expanded x window ps) (sym e)
-
--- and of one without
-pub held-listed : (k c : ℕ) (window ps : List ℕ) → hasWindow k c ≡ false → held k c window ps ≡ (λ r d. inList ps (64 * r + d))
-unfolding held
-held-listed k c window ps w = ap (λ (t : Bool). sourceSet t (offsetAt k c) window ps) w
 
 -- without a window, the coupons held are the pairs of the list
 pub listed-count : (k c : ℕ) (window ps : List ℕ) → hasWindow k c ≡ false → pairsJudged k ps ≡ accepted [] → coupons (matrixOf k (held k c window ps)) ≡ length ps
@@ -50,16 +40,6 @@ module _ (lg c o : ℕ) (window ps : List ℕ) (s : WideSource lg c o window ps)
       ∙ ap (λ (x : ℕ). eqb lg 26 && (leb 56 x && has (getD window 67108863 0) (63 - x))) (sym (s .offset))
 
   module _ (bytes : (r : ℕ) → getD window r 0 < 2 ^ 8) (in-columns : windowJudged o 0 window ≡ accepted []) (out-columns : columnsJudged o 0 ps ≡ accepted []) where
-    pub parts : Parts o (2 ^ lg) window ps
-    parts = record {
-      sorted = judged-sorted (2 ^ lg) ps (s .pairs);
-      below = judged-below (2 ^ lg) ps (s .pairs);
-      long = s .long;
-      byte = bytes;
-      inside = window-inside o window in-columns;
-      apart = columns-apart o ps out-columns;
-    }
-
     -- no pair is in the window's columns
     out : (i : ℕ) → i < length ps → inWindow o (getD ps i 0 % 64) ≡ false
     unfolding inList
@@ -85,8 +65,8 @@ module _ (lg c o : ℕ) (window ps : List ℕ) (s : WideSource lg c o window ps)
     pub held-count : coupons (matrixOf (2 ^ lg) (held (2 ^ lg) c window ps)) + 2 * countBelow (length ps) (λ i. ltb (getD ps i 0 % 64) o)
         ≡ o * length window + sumBelow (length window) (λ r. ones (getD window r 0)) + length ps
     held-count =
-        let all = coupons-wide o (2 ^ lg) window ps (omega (arith, s .small)) parts in
-        let same : coupons (matrixOf (2 ^ lg) (held (2 ^ lg) c window ps)) ≡ coupons (matrixOf (2 ^ lg) (expanded o window ps)) = ap (λ (f : ℕ → ℕ → Bool). coupons (matrixOf (2 ^ lg) f)) (held-wide (2 ^ lg) c o window ps (s .wide) (s .offset)) in
+        let all = coupons-wide o (2 ^ lg) window ps (omega (arith, s .small)) (parts-judged o (2 ^ lg) window ps (s .pairs) in-columns out-columns (s .long) bytes) in
+        let same : coupons (matrixOf (2 ^ lg) (held (2 ^ lg) c window ps)) ≡ coupons (matrixOf (2 ^ lg) (expanded o window ps)) = ap (λ (f : ℕ → ℕ → Bool). coupons (matrixOf (2 ^ lg) f)) (held-wide (2 ^ lg) c window ps (s .wide)) ∙ ap (λ (x : ℕ). coupons (matrixOf (2 ^ lg) (expanded x window ps))) (sym (s .offset)) in
         let long : sumBelow (length window) (λ r. ones (getD window r 0)) ≡ sumBelow (2 ^ lg) (λ r. ones (getD window r 0)) = ap (λ (n : ℕ). sumBelow n (λ r. ones (getD window r 0))) (s .long) in
         let wide : o * length window ≡ o * 2 ^ lg = ap (λ (n : ℕ). o * n) (s .long) in
         omega (arith, all, same, long, wide, sides)

@@ -15,7 +15,7 @@ use Rattle.matrices.specs.Matrix.{matrixOf, coupons, reserved}
 use Rattle.matrices.specs.Source.{hasWindow, held, windowJudged, columnsJudged, placesJudged, sourceJudged}
 use Rattle.unions.specs.Steps.{heldJudged}
 use Rattle.unions.proofs.Answered.{through}
-use Rattle.unions.proofs.Planning.{inside-of}
+use Rattle.unions.proofs.ShapeTold.{inside-of}
 
 -- the late 10, then 17
 module _ (lg c : ℕ) (window ps : List ℕ) where

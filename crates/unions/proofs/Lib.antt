@@ -2,7 +2,7 @@
 pub mod Answered
 pub mod HeldCounted
 pub mod JudgedSteps
-pub mod Planning
-pub mod SettingPairs
+pub mod PlanSteps
+pub mod ShapeTold
 pub mod Summing
 pub mod Zeroing

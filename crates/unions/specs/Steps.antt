@@ -5,33 +5,47 @@ use mathlib.Core.Bool.{Bool, true, not, _&&_, _||_}
 use mathlib.Core.List.{List, []}
 use lib.Dec.{eqb, ltb}
 use lib.ListN.{length, getD}
-use Rattle.laws.specs.Below.{anyBelow}
+use Rattle.laws.specs.Below.{anyBelow, everyBelow}
 use Rattle.laws.specs.Choose.{choose}
 use Rattle.refusals.specs.Outcome.{Outcome, accepted, refused}
 use Rattle.refusals.specs.Told.{told}
 use Rattle.numbers.specs.Calls.{outside}
 use Rattle.numbers.specs.Numbers.{offsetAt}
 use Rattle.pair_lists.specs.Lists.{pairsJudged}
-use Rattle.matrices.specs.Calls.{wrongRows}
 use Rattle.matrices.specs.Matrix.{at, matrixOf, coupons, reserved}
-use Rattle.matrices.specs.Source.{hasWindow, held, wrongWindow}
-use Rattle.unions.specs.declared.judging.Plan.{Plan}
-use Rattle.unions.specs.declared.judging.Plan.the-variants as plan
-use Rattle.unions.specs.declared.judging.Shape.{Shape}
+use Rattle.matrices.specs.Shapes.{folded, merged}
+use Rattle.matrices.specs.Source.{expanded, hasWindow, held}
+use Rattle.unions.specs.declared.planning.Plan.{Plan}
+use Rattle.unions.specs.declared.planning.Plan.the-variants as plan
+use Rattle.unions.specs.declared.planning.Shape.{Shape}
 
 -- m, and the first n pairs of a list, their rows taken mod k
 abbrev pub pairsSet : ℕ → List ℕ → List ℕ → ℕ → ℕ → ℕ → Bool
 pairsSet k m ps n r c = at m r c || anyBelow n (λ i. eqb (getD ps i 0 / 64 % k) r && eqb c (getD ps i 0 % 64))
 
+-- m, and a source, its rows taken mod 2^lg: row by row if it has a window, else pair by pair
+abbrev pub sourceMerged : ℕ → Bool → ℕ → List ℕ → List ℕ → List ℕ → List ℕ
+sourceMerged lg wide o m window ps =
+    choose wide (matrixOf (length m) (merged (2 ^ lg) (length window) m (expanded o window ps))) (matrixOf (length m) (pairsSet (2 ^ lg) m ps (length ps)))
+
+-- m, folded to 2^from rows where that is less than 2^present
+abbrev pub lowered : ℕ → ℕ → List ℕ → List ℕ
+lowered present from m = choose (ltb from present) (matrixOf (length m) (folded (2 ^ from) m)) m
+
 -- 1, and 17 where the coupons exceed 64k
 unfoldable pub shapeJudged : ℕ → ℕ → Outcome
 shapeJudged lg c = choose (outside lg) (refused 1 0) (choose (ltb (64 * 2 ^ lg) c) (refused 17 0) (accepted []))
 
--- 1, 17 where the coupons exceed 64k, 2
-unfoldable pub lentJudged : ℕ → List ℕ → ℕ → ℕ → List ℕ → Outcome
-lentJudged lg m from c window =
+-- 1, 17 where the coupons exceed 64k, 2: a matrix of so many words at lg, a window of so many bytes at the source's lg
+unfoldable pub lentJudged : ℕ → ℕ → ℕ → ℕ → ℕ → Outcome
+lentJudged lg words from c bytes =
     choose (outside from || outside lg) (refused 1 0)
-    (choose (ltb (64 * 2 ^ from) c) (refused 17 0) (choose (wrongRows lg m || wrongWindow (2 ^ from) c window) (refused 2 0) (accepted [])))
+    (choose (ltb (64 * 2 ^ from) c) (refused 17 0)
+    (choose (not (eqb words (2 ^ lg)) || not (eqb bytes (choose (hasWindow (2 ^ from) c) (2 ^ from) 0))) (refused 2 0) (accepted [])))
+
+-- the rows from k on are zero
+abbrev pub zerosFrom : ℕ → List ℕ → Bool
+zerosFrom k m = everyBelow (length m) (λ r. ltb r k || eqb (getD m r 0) 0)
 
 -- the shape of a source with so many coupons
 pub record ShapeOf (lg c : ℕ) (s : Shape) : Type 0 where

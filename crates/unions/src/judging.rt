@@ -1,4 +1,4 @@
-// All that can be wrong with a source or a union, found before anything is written.
+// All that can be wrong with a source, found before anything is written.
 // After the asserts of src/cpc/union.rs and src/cpc/sketch.rs of the Rust crate datasketches 0.5.0 (Apache-2.0); changed: each is refused by number, and what the Rust trusts is judged: the window's
 // and the pairs' columns, and the stated coupons, which are counted without a matrix.
 ghost use mathlib.Core.Path.{_≡_};
@@ -13,15 +13,10 @@ ghost use Rattle.laws.specs.Choose.{choose};
 ghost use Rattle.laws.specs.Columns.{has};
 ghost use Rattle.refusals.specs.Outcome.{accepted, andThen};
 ghost use Rattle.matrices.specs.Matrix.{inWindow};
-ghost use Rattle.matrices.specs.Parts.{windowed};
 ghost use Rattle.matrices.specs.Source.{pastColumns, windowJudged, columnsJudged, placesJudged, sourceJudged};
-ghost use Rattle.unions.specs.Steps.{ShapeOf, PlannedBy, shapeJudged, WideSource, heldJudged};
+ghost use Rattle.unions.specs.Steps.{ShapeOf, WideSource, heldJudged};
 ghost use Rattle.unions.specs.Told.{toldJudged};
-use numbers::Flavor;
-use numbers::FlavorAnswer;
-use numbers::NumberAnswer;
-use numbers::determine_correct_offset;
-use numbers::determine_flavor;
+use super::planning::Shape;
 use pair_lists::PairsAnswer;
 use pair_lists::judge_pairs;
 use refusals::Refusal;
@@ -29,45 +24,6 @@ use refusals::Refusal;
 pub enum Judgement {
     Lawful,
     Refused(Refusal),
-}
-
-// What the stated coupons say of a source: a window or none, and its offset.
-pub struct Shape {
-    pub wide: bool,
-    pub offset: u64,
-}
-
-pub enum Plan {
-    Take(Shape),
-    Refused(Refusal),
-}
-
-fn has_window(flavor: Flavor) -> bool
-    ensures { λ r. ⌜ r ≡ windowed flavor ⌝ }
-{
-    match flavor {
-        Flavor::Empty => false,
-        Flavor::Sparse => false,
-        Flavor::Hybrid => true,
-        Flavor::Pinned => true,
-        Flavor::Sliding => true,
-    }
-}
-
-// Refusals 1, and 17 where the coupons exceed 64k.
-fn shape_of(lg: u8, coupons: u32) -> Plan
-    ensures { λ r. ⌜ PlannedBy (shapeJudged lg coupons) lg coupons r ⌝ }
-{
-    match determine_correct_offset(lg, coupons) {
-        NumberAnswer::Refused(why) => Plan::Refused(why),
-        NumberAnswer::Given(offset) => match determine_flavor(lg, coupons) {
-            FlavorAnswer::Refused(why) => Plan::Refused(why),
-            FlavorAnswer::Flavored(flavor) => Plan::Take(Shape {
-                wide: has_window(flavor),
-                offset: offset as u64,
-            }),
-        },
-    }
 }
 
 // A window bit past column 63.
@@ -202,7 +158,7 @@ fn judge_wide(lg: u8, coupons: u32, offset: u64, window: &[u8], pairs: &[u32]) -
 }
 
 // The first faulty pair (8, 11, 10), 14, 10, 17.
-fn judge_source(lg: u8, coupons: u32, shape: Shape, window: &[u8], pairs: &[u32]) -> Judgement
+pub fn judge_source(lg: u8, coupons: u32, shape: Shape, window: &[u8], pairs: &[u32]) -> Judgement
     requires { ⌜ ShapeOf lg coupons shape × (length (now window) ≡ choose (shape .wide) (2 ^ lg) 0) ⌝ }
     ensures { λ r. ⌜ toldJudged r ≡ sourceJudged lg coupons (now (window .entry)) (now (pairs .entry)) ⌝ }
 {

@@ -9,6 +9,7 @@ mod clearing;
 mod counting;
 mod judging;
 mod merging;
+mod planning;
 mod words;
 
 use numbers::Flavor;

@@ -2,14 +2,16 @@
 // After src/cpc/union.rs (or_window_into_matrix, or_table_into_matrix, or_matrix_into_matrix, reduce_k) of the Rust crate datasketches 0.5.0 (Apache-2.0); changed: a matrix is folded where it
 // lies, pairs come as an increasing list, and a row of a source is put together and ORed at once, so that no second matrix is built.
 ghost use mathlib.Core.Path.{_≡_};
-ghost use Prim.Native.Nat.{_+_, _*_, _/_, _^_, _≤_, _<_};
-ghost use lib.ListN.{length, getD};
+ghost use Prim.Native.Nat.{_+_, _*_, _/_, _^_, _≤_, _<_, min};
+ghost use lib.ListN.{length, replicate};
 ghost use Rattle.laws.specs.Columns.{wordOf};
 ghost use Rattle.matrices.specs.Listing.{inList};
 ghost use Rattle.matrices.specs.Matrix.{matrixOf};
 ghost use Rattle.matrices.specs.Shapes.{folded, merged, Sorted, Between};
 ghost use Rattle.matrices.specs.Source.{expanded};
-ghost use Rattle.unions.specs.Steps.{pairsSet};
+ghost use Rattle.unions.specs.Steps.{pairsSet, sourceMerged, lowered};
+use super::clearing::clear;
+use super::planning::Shape;
 use super::words::join;
 use super::words::or_words;
 use super::words::row_in;
@@ -85,4 +87,54 @@ pub fn merge_pairs(matrix: &mut [u64], lg: u8, pairs: &[u32])
         matrix[t] = with_column(old, (p % 64) as u64);
         i += 1;
     }
+}
+
+// A source is merged into the first 2^lg rows of a matrix: row by row if it has a window, else pair by pair.
+fn merge_source(matrix: &mut [u64], lg: u8, shape: Shape, window: &[u8], pairs: &[u32])
+    requires { ⌜ (lg ≤ 26) × (2 ^ lg ≤ length (now matrix)) × (length (now window) ≤ 67108864) × (shape .offset ≤ 61) × Sorted (now pairs) ⌝ }
+    ensures { λ _. ⌜ now (matrix .exit) ≡ sourceMerged lg (shape .wide) (shape .offset) (now (matrix .entry)) (now (window .entry)) (now (pairs .entry)) ⌝ }
+{
+    if shape.wide {
+        merge_rows(matrix, lg, shape.offset, window, pairs);
+        return;
+    }
+    merge_pairs(matrix, lg, pairs);
+}
+
+// A source is written into a matrix of its own k.
+pub fn fill(matrix: &mut [u64], lg: u8, shape: Shape, window: &[u8], pairs: &[u32])
+    requires { ⌜ (lg ≤ 26) × (2 ^ lg ≤ length (now matrix)) × (length (now window) ≤ 67108864) × (shape .offset ≤ 61) × Sorted (now pairs) ⌝ }
+    ensures { λ _. ⌜ now (matrix .exit) ≡ sourceMerged lg (shape .wide) (shape .offset) (replicate (length (now (matrix .entry))) 0) (now (window .entry)) (now (pairs .entry)) ⌝ }
+{
+    clear(matrix);
+    merge_source(matrix, lg, shape, window, pairs);
+}
+
+// The matrix of a union is folded to a source's k where that is smaller.
+fn lower(matrix: &mut [u64], present: u8, from: u8) -> u8
+    requires { ⌜ (present ≤ 26) × (2 ^ present ≤ length (now matrix)) ⌝ }
+    ensures { λ r. ⌜ (r ≡ min present from) × (now (matrix .exit) ≡ lowered present from (now (matrix .entry))) ⌝ }
+{
+    if from < present {
+        fold(matrix, from);
+        return from;
+    }
+    present
+}
+
+// A source is merged into the matrix of a union; the answer is the lg_k from then on.
+pub fn take_in(
+    matrix: &mut [u64],
+    present: u8,
+    from: u8,
+    shape: Shape,
+    window: &[u8],
+    pairs: &[u32],
+) -> u8
+    requires { ⌜ (present ≤ 26) × (2 ^ present ≤ length (now matrix)) × (length (now window) ≤ 67108864) × (shape .offset ≤ 61) × Sorted (now pairs) ⌝ }
+    ensures { λ r. ⌜ (r ≡ min present from) × (now (matrix .exit) ≡ sourceMerged (min present from) (shape .wide) (shape .offset) (lowered present from (now (matrix .entry))) (now (window .entry)) (now (pairs .entry))) ⌝ }
+{
+    let lg = lower(matrix, present, from);
+    merge_source(matrix, lg, shape, window, pairs);
+    lg
 }

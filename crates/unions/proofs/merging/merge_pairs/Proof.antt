@@ -1,6 +1,6 @@
 -- `unions::merging::merge_pairs` meets its contract. Assumes nothing.
 use borrow.Author.Needs.{needs}
-use mathlib.Core.Path.{_≡_, _∙_, ap, sym, subst}
+use mathlib.Core.Path.{_≡_, refl, _∙_, ap}
 use mathlib.Core.Bool.{_||_}
 use mathlib.Core.List.{List}
 use Prim.Native.Nat.{ℕ, _+_, _*_, _-_, _/_, _%_, _^_, _≤_, _<_}
@@ -11,7 +11,7 @@ use lib.ListN.{length, getD, set, length-set}
 use Rattle.laws.specs.Columns.{wordOf}
 use Rattle.matrices.specs.Matrix.{at, matrixOf}
 use Rattle.unions.specs.Steps.{pairsSet}
-use Rattle.unions.proofs.SettingPairs.{pairs-start, pairs-turn}
+use Rattle.matrices.proofs.MergeWhole.{pairs-start, pairs-turn}
 use Rattle.unions.proofs.merging.merge_pairs.Statement.{statement}
 use Rattle.unions.proofs.merging.merge_pairs.Tie as tie
 
@@ -24,7 +24,7 @@ abbrev μ-loop : tie.MeasureT-loop
 loop-holds : tie.Need-loop-holds Inv-loop μ-loop
 loop-holds c =
     let a = c .before .before .args in
-    (omega arith, omega arith, pairs-start (now (a .matrix)) (2 ^ a .lg) (now (a .pairs)) (λ r. c .before .slice-known .given r .fits))
+    (omega arith, omega arith, pairs-start (2 ^ a .lg) (now (a .matrix)) (now (a .pairs)) (λ r. c .before .slice-known .given r .fits))
 
 mul-p : tie.Need-mul-p Inv-loop μ-loop
 mul-p c = search needs
@@ -82,7 +82,8 @@ loop-again c =
       ap (set (l .matrix) (r .row-in .result)) (c .with-column .ensures)
           ∙ ap (λ (t : ℕ). set (l .matrix) t (wordOf 64 (λ d. at (l .matrix) t d || eqb d (p % 64)))) (r .row-in .ensures .0)
           ∙ ap (λ (x : List ℕ). set x (p / 64 % k) (wordOf 64 (λ d. at x (p / 64 % k) d || eqb d (p % 64)))) (l .inv .2)
-          ∙ pairs-turn m k ps (l .i) (omega (arith, r .row-in .ensures .0, falls-in r, l .inv .1)),
+          ∙ pairs-turn k m ps (l .i) (p / 64 % k) refl (omega (arith, r .row-in .ensures .0, falls-in r, l .inv .1))
+          (λ d. at (matrixOf (length m) (pairsSet k m ps (l .i))) (p / 64 % k) d || eqb d (p % 64)) (λ d h. refl),
     )
 
 same-length : tie.Need-same-length Inv-loop μ-loop

@@ -1,10 +1,10 @@
--- `unions::judging::shape_of` meets its contract. Assumes nothing.
+-- `unions::planning::shape_of` meets its contract. Assumes nothing.
 use mathlib.Core.Path.{sym, ap, _∙_}
 use Rattle.numbers.specs.Told.{toldNumber, toldFlavor}
-use Rattle.unions.proofs.Planning.{shape-refused, shape-given, flavor-never}
+use Rattle.unions.proofs.ShapeTold.{shape-refused, shape-given, flavor-never}
 use borrow.Author.Needs.{needs}
-use Rattle.unions.proofs.judging.shape_of.Statement.{statement}
-use Rattle.unions.proofs.judging.shape_of.Tie as tie
+use Rattle.unions.proofs.planning.shape_of.Statement.{statement}
+use Rattle.unions.proofs.planning.shape_of.Tie as tie
 
 determine-correct-offset-requires : tie.Need-determine-correct-offset-requires
 determine-correct-offset-requires c κs = search needs
