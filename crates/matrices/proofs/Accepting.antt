@@ -66,6 +66,9 @@ module _ (lg c : ℕ) (window ps : List ℕ) (pairs : pairsJudged (2 ^ lg) ps �
   abbrev m : List ℕ
   m = matrixOf (2 ^ lg) (held (2 ^ lg) c window ps)
 
+  abbrev late : Outcome
+  late = choose (reserved lg m) (refused 10 67108863) (choose (not (eqb (coupons m) c)) (refused 17 0) (accepted []))
+
   -- without a window: the list is as long as the stated coupons are many
   pub late-listed : hasWindow (2 ^ lg) c ≡ false → sourceJudged lg c window ps ≡ choose (not (eqb (length ps) c)) (refused 17 0) (accepted [])
   unfolding sourceJudged
@@ -77,9 +80,6 @@ module _ (lg c : ℕ) (window ps : List ℕ) (pairs : pairsJudged (2 ^ lg) ps �
       ∙ ap (λ (t : Bool). andThen (placesJudged t o window ps) late) w
       ∙ ap (λ (t : Bool). choose t (refused 10 67108863) (choose (not (eqb (coupons m) c)) (refused 17 0) (accepted []))) (late-none lg c window ps pairs w)
       ∙ ap (λ (n : ℕ). choose (not (eqb n c)) (refused 17 0) (accepted [])) count
-    where
-      late : Outcome
-      late = choose (reserved lg m) (refused 10 67108863) (choose (not (eqb (coupons m) c)) (refused 17 0) (accepted []))
 
   -- with a window: 10 by the last window byte; 17 if o·k + ones of the window + pairs above it are not the stated coupons + pairs below it
   pub late-windowed : hasWindow (2 ^ lg) c ≡ true → c ≤ 64 * 2 ^ lg → length window ≡ 2 ^ lg → ((r : ℕ) → getD window r 0 < 2 ^ 8)
@@ -98,9 +98,6 @@ module _ (lg c : ℕ) (window ps : List ℕ) (pairs : pairsJudged (2 ^ lg) ps �
       ∙ ap (λ (t : Bool). andThen (placesJudged t o window ps) late) w
       ∙ ap₂ (λ (a b : Outcome). andThen (andThen a b) late) inside apart
       ∙ ap₂ (λ (t u : Bool). choose t (refused 10 67108863) (choose (not u) (refused 17 0) (accepted []))) (late-wide lg c window ps pairs w most) test
-    where
-      late : Outcome
-      late = choose (reserved lg m) (refused 10 67108863) (choose (not (eqb (coupons m) c)) (refused 17 0) (accepted []))
 
 -- ---- an accepted source
 

@@ -36,7 +36,7 @@ module _ (lg : ℕ) where
   right : (l : List ℕ) → wrongRows lg l ≡ false → length l ≡ 2 ^ lg
   right l e = eqb-true (length l) (2 ^ lg) (not-false (eqb (length l) (2 ^ lg)) e)
 
-  right-rows : (l : List ℕ) → length l ≡ 2 ^ lg → wrongRows lg l ≡ false
+  pub right-rows : (l : List ℕ) → length l ≡ 2 ^ lg → wrongRows lg l ≡ false
   right-rows l e = ap not (eq-eqb (length l) (2 ^ lg) e)
 
   pub inside-least : outside lg ≡ false → 4 ≤ lg

@@ -21,10 +21,10 @@ unfolding sumBelow
 count-le zero p = omega arith
 count-le (suc n) p = omega (arith, count-le n p, count1-le (p n))
 
-pub sum-le : (n b : ℕ) (f : ℕ → ℕ) → ((r : ℕ) → f r ≤ 64) → sumBelow n f ≤ 64 * n
+pub sum-le : (n : ℕ) (f : ℕ → ℕ) → ((r : ℕ) → f r ≤ 64) → sumBelow n f ≤ 64 * n
 unfolding sumBelow
-sum-le zero b f h = omega arith
-sum-le (suc n) b f h = omega (arith, sum-le n b f h, h n)
+sum-le zero f h = omega arith
+sum-le (suc n) f h = omega (arith, sum-le n f h, h n)
 
 top-clear : (p : ℕ → Bool) → p 63 ≡ false → countBelow 64 p ≤ 63
 unfolding sumBelow
@@ -32,7 +32,7 @@ top-clear p e = omega (arith, count-le 63 p, ap one e)
 
 last-clear : (n : ℕ) (f : ℕ → ℕ) → ((r : ℕ) → f r ≤ 64) → f n ≤ 63 → sumBelow (suc n) f < 64 * suc n
 unfolding sumBelow
-last-clear n f h l = omega (arith, sum-le n 0 f h)
+last-clear n f h l = omega (arith, sum-le n f h)
 
 pub coupons-fit : (lg : ℕ) (m : List ℕ) → lg ≤ 26 → length m ≡ 2 ^ lg → reserved lg m ≡ false → coupons m < 2 ^ 32
 unfolding coupons
@@ -40,7 +40,7 @@ coupons-fit lg m l n c =
     ⊎-elim
     (λ (h : lg < 26).
     let q : 2 ^ lg ≤ 2 ^ 25 = pow-mono {i = lg} {j = 25} (omega arith) in
-    omega (arith, sum-le (length m) 0 (λ r. countBelow 64 (at m r)) (λ r. count-le 64 (at m r))))
+    omega (arith, sum-le (length m) (λ r. countBelow 64 (at m r)) (λ r. count-le 64 (at m r))))
     (λ (h : 26 ≤ lg).
     let e : lg ≡ 26 = omega arith in
     let k : length m ≡ suc 67108863 = n ∙ ap (λ (x : ℕ). 2 ^ x) e in

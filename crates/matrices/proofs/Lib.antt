@@ -16,6 +16,7 @@ pub mod FirstColumn
 pub mod Members
 pub mod Inverse
 pub mod Bridges
+pub mod SplitCount
 pub mod Judged
 pub mod CouponsHeld
 pub mod LateReserved
@@ -27,4 +28,11 @@ pub mod MergeWhole
 pub mod SplitLists
 pub mod Answered
 pub mod Undone
+pub mod MergeCalls
+pub mod Lasting
+pub mod FirstMerge
+pub mod UnionSplit
+pub mod Holding
+pub mod HeldPairs
+pub mod Reordering
 pub mod Fits

@@ -43,7 +43,7 @@ use Rattle.matrices.proofs.SplitTurn.{getD-map}
 -- no matrix of k rows holds more than 64k
 pub coupons-most : (m : List ℕ) → coupons m ≤ 64 * length m
 unfolding coupons
-coupons-most m = sum-le (length m) 0 (λ r. countBelow 64 (at m r)) (λ r. count-le 64 (at m r))
+coupons-most m = sum-le (length m) (λ r. countBelow 64 (at m r)) (λ r. count-le 64 (at m r))
 
 -- ---- the window and the pairs that a split leaves
 

@@ -3,4 +3,5 @@ pub mod Listing
 pub mod Parts
 pub mod Source
 pub mod Calls
+pub mod History
 pub mod Shapes
