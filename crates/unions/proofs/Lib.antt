@@ -2,7 +2,9 @@
 pub mod Answered
 pub mod HeldCounted
 pub mod JudgedSteps
+pub mod MergeTold
 pub mod PlanSteps
 pub mod ShapeTold
+pub mod SourceTaken
 pub mod Summing
 pub mod Zeroing

@@ -2,8 +2,8 @@
 // After src/cpc/union.rs, src/cpc/sketch.rs (build_bit_matrix) and src/cpc/mod.rs (count_bits_set_in_matrix) of the Rust crate datasketches 0.5.0 (Apache-2.0); changed: one lent matrix and a
 // small record for `UnionState`, lent slices for `Vec`, and each call is total and refuses by number.
 ghost use mathlib.Core.Path.{_≡_};
-ghost use Rattle.matrices.specs.Calls.{countOf, newUnionOf, newMatrix};
-ghost use Rattle.unions.specs.Told.{toldCount, toldUnion};
+ghost use Rattle.matrices.specs.Calls.{countOf, expandOf, expandedMatrix, newUnionOf, newMatrix, mergeOf, mergedMatrix};
+ghost use Rattle.unions.specs.Told.{toldCount, toldExpand, toldUnion};
 
 mod clearing;
 mod counting;
@@ -15,6 +15,7 @@ mod words;
 use numbers::Flavor;
 use numbers::RowsAnswer;
 use numbers::rows;
+use planning::Plan;
 use refusals::Refusal;
 
 pub enum CountAnswer {
@@ -82,6 +83,26 @@ pub fn count(lg: u8, matrix: &[u64]) -> CountAnswer
     }
 }
 
+// The pairs that a window and a list stand for, as a matrix.
+pub fn expand(
+    lg: u8,
+    coupons: u32,
+    window: &[u8],
+    pairs: &[u32],
+    matrix: &mut [u64],
+) -> ExpandAnswer
+    ensures { λ r. ⌜ (toldExpand r ≡ expandOf lg coupons (now (window .entry)) (now (pairs .entry)) (now (matrix .entry)))
+        × (now (matrix .exit) ≡ expandedMatrix lg coupons (now (window .entry)) (now (pairs .entry)) (now (matrix .entry))) ⌝ }
+{
+    match planning::judge_expansion(lg, coupons, matrix.len(), window, pairs) {
+        Plan::Refused(why) => ExpandAnswer::Refused(why),
+        Plan::Take(shape) => {
+            merging::fill(matrix, lg, shape, window, pairs);
+            ExpandAnswer::Expanded
+        }
+    }
+}
+
 // A union of nothing: the matrix is zeroed.
 pub fn new_union(lg: u8, seed: u64, matrix: &mut [u64]) -> UnionAnswer
     ensures { λ r. ⌜ (toldUnion r ≡ newUnionOf lg seed (now (matrix .entry))) × (now (matrix .exit) ≡ newMatrix lg seed (now (matrix .entry))) ⌝ }
@@ -97,6 +118,33 @@ pub fn new_union(lg: u8, seed: u64, matrix: &mut [u64]) -> UnionAnswer
                 lg: lg,
                 present: lg,
                 seed: seed,
+            })
+        }
+    }
+}
+
+// A source joins a union: its pairs, their rows taken mod the k from then on.
+pub fn merge(
+    state: CpcUnion,
+    matrix: &mut [u64],
+    source: Source,
+    window: &[u8],
+    pairs: &[u32],
+) -> UnionAnswer
+    ensures { λ r. ⌜ (toldUnion r ≡ mergeOf (state .lg) (state .present) (state .seed) (now (matrix .entry)) (source .lg) (source .seed) (source .coupons) (now (window .entry)) (now (pairs .entry)))
+        × (now (matrix .exit) ≡ mergedMatrix (state .lg) (state .present) (state .seed) (now (matrix .entry)) (source .lg) (source .seed) (source .coupons) (now (window .entry)) (now (pairs .entry))) ⌝ }
+{
+    match planning::judge_merge(state, matrix, source, window, pairs) {
+        Plan::Refused(why) => UnionAnswer::Refused(why),
+        Plan::Take(shape) => {
+            if source.coupons == 0 {
+                return UnionAnswer::Made(state);
+            }
+            let present = merging::take_in(matrix, state.present, source.lg, shape, window, pairs);
+            UnionAnswer::Made(CpcUnion {
+                lg: state.lg,
+                present: present,
+                seed: state.seed,
             })
         }
     }
