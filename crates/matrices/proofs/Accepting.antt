@@ -30,16 +30,19 @@ use Rattle.matrices.proofs.Places.{window-inside, window-empty, columns
 -- ---- the pairs that a source stands for, with a window and without
 
 module _ (k c : ℕ) (window ps : List ℕ) where
+  -- with a window: by the window and the list
   pub held-wide : hasWindow k c ≡ true → held k c window ps ≡ expanded (offsetAt k c) window ps
   unfolding held
   held-wide w = ap (λ (t : Bool). sourceSet t (offsetAt k c) window ps) w
 
+  -- without: by the list
   pub held-listed : hasWindow k c ≡ false → held k c window ps ≡ (λ r d. inList ps (64 * r + d))
   unfolding held
   held-listed w = ap (λ (t : Bool). sourceSet t (offsetAt k c) window ps) w
 
 -- ---- lawful parts
 
+-- parts that no judgement refuses are lawful
 pub parts-judged : (o k : ℕ) (window ps : List ℕ) → pairsJudged k ps ≡ accepted [] → windowJudged o 0 window ≡ accepted [] → columnsJudged o 0 ps ≡ accepted []
     → length window ≡ k → ((r : ℕ) → getD window r 0 < 2 ^ 8) → Parts o k window ps
 parts-judged o k window ps pairs inside apart long byte = record {
@@ -136,6 +139,7 @@ source-accepted lg c window ps values e =
       count = eqb-true (coupons m) c (not-false (eqb (coupons m) c) (t .0));
     }
 
+-- and such a source is accepted
 pub source-given : (lg c : ℕ) (window ps : List ℕ) → Accepted lg c window ps → sourceJudged lg c window ps ≡ accepted []
 unfolding sourceJudged
 source-given lg c window ps a =

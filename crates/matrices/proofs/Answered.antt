@@ -36,9 +36,11 @@ module _ (lg : ℕ) where
   right : (l : List ℕ) → wrongRows lg l ≡ false → length l ≡ 2 ^ lg
   right l e = eqb-true (length l) (2 ^ lg) (not-false (eqb (length l) (2 ^ lg)) e)
 
+  -- and one of the right length
   pub right-rows : (l : List ℕ) → length l ≡ 2 ^ lg → wrongRows lg l ≡ false
   right-rows l e = ap not (eq-eqb (length l) (2 ^ lg) e)
 
+  -- an lg_k in 4..26
   pub inside-least : outside lg ≡ false → 4 ≤ lg
   inside-least e = ltb-false lg 4 (or-none (ltb lg 4) (ltb 26 lg) e .0)
 
@@ -46,6 +48,7 @@ module _ (lg : ℕ) where
   inside-most e = ltb-false 26 lg (or-none (ltb lg 4) (ltb 26 lg) e .1)
 
 module _ (lg : ℕ) (m window out : List ℕ) where
+  -- an accepted split passed every test
   pub split-accepted : (values : List ℕ) → splitOf lg m window out ≡ accepted values → Split lg m window out
   unfolding splitOf
   split-accepted values e =
@@ -56,6 +59,7 @@ module _ (lg : ℕ) (m window out : List ℕ) where
       let g = or-none (wrongRows lg m) (wrongRows lg window) (b .0) in
       record { inside = a .0; rows = right lg m (g .0); bytes = right lg window (g .1); clear = d .0; room = ltb-false (length out) (length (listed lg m)) (f .0) }
 
+  -- and where every test passes, this is its answer
   pub split-given : Split lg m window out
       → splitOf lg m window out
       ≡ accepted (coupons m ∷ flavorNumber (flavorAt (2 ^ lg) (coupons m)) ∷ offsetIn lg m ∷ firstColumn (windowIn lg m) (offsetIn lg m) m ∷ length (listed lg m) ∷ [])
@@ -73,6 +77,7 @@ pub record Expanded (lg c : ℕ) (window ps m : List ℕ) : Type 0 where
   pub source : Accepted lg c window ps
 
 module _ (lg c : ℕ) (window ps m : List ℕ) where
+  -- an accepted expansion passed every test
   pub expand-accepted : (values : List ℕ) → expandOf lg c window ps m ≡ accepted values → Expanded lg c window ps m
   unfolding expandOf
   expand-accepted values e =
@@ -89,6 +94,7 @@ module _ (lg c : ℕ) (window ps m : List ℕ) where
         source = source-accepted lg c window ps values (d .1);
       }
 
+  -- and where every test passes it is accepted
   pub expand-given : Expanded lg c window ps m → expandOf lg c window ps m ≡ accepted []
   unfolding expandOf
   expand-given x =
@@ -114,6 +120,7 @@ pub record Merged (lg present seed : ℕ) (m : List ℕ) (from other c : ℕ) (w
   pub source : Accepted from c window ps
   pub seeds : seed ≡ other
 
+-- an accepted merge passed every test
 pub merge-accepted : (lg present seed : ℕ) (m : List ℕ) (from other c : ℕ) (window ps values : List ℕ)
     → mergeJudged lg present seed m from other c window ps ≡ accepted values → Merged lg present seed m from other c window ps
 unfolding mergeJudged
@@ -154,6 +161,7 @@ merge-same lg present seed m present′ m′ from other c window ps n n′ l l�
 
 -- ---- and an accepted new union
 
+-- it passed both tests
 pub new-accepted : (lg seed : ℕ) (m values : List ℕ) → newUnionOf lg seed m ≡ accepted values → (outside lg ≡ false) × (length m ≡ 2 ^ lg)
 unfolding newUnionOf
 new-accepted lg seed m values e =

@@ -44,6 +44,7 @@ length-from a (suc n) p = length-append (listFrom a n p) (only (p (a + n)) (a + 
     length-only true x = refl
     length-only false x = refl
 
+-- from 0 on
 pub length-list : (n : ℕ) (p : ℕ → Bool) → length (listFrom 0 n p) ≡ countBelow n p
 length-list n p = length-from 0 n p ∙ count-same n (λ i. p (0 + i)) p (λ i h. ap p (zero-add i))
 

@@ -14,6 +14,7 @@ pub sum-none : (f : ℕ → ℕ) → sumBelow 0 f ≡ 0
 unfolding sumBelow
 sum-none f = refl
 
+-- one more
 pub sum-more : (n : ℕ) (f : ℕ → ℕ) → sumBelow (n + 1) f ≡ sumBelow n f + f n
 unfolding sumBelow
 sum-more n f = ap (λ (x : ℕ). sumBelow x f) (add-one n)
@@ -22,13 +23,16 @@ sum-more n f = ap (λ (x : ℕ). sumBelow x f) (add-one n)
 abbrev pub counted : List ℕ → ℕ → ℕ
 counted m i = sumBelow i (λ r. countBelow 64 (at m r))
 
+-- before the first row
 pub counted-none : (m : List ℕ) → counted m 0 ≡ 0
 counted-none m = sum-none (λ r. countBelow 64 (at m r))
 
+-- a row more: the ones of its word
 pub counted-more : (m : List ℕ) (i : ℕ) → getD m i 0 < 2 ^ 64 → counted m (i + 1) ≡ counted m i + ones (getD m i 0)
 counted-more m i h =
     sum-more i (λ r. countBelow 64 (at m r)) ∙ ap (λ (x : ℕ). counted m i + x) (sym (ones-count 64 (getD m i 0) h))
 
+-- after the last row
 pub counted-all : (m : List ℕ) → counted m (length m) ≡ coupons m
 unfolding coupons
 counted-all m = refl

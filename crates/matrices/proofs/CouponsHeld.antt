@@ -31,6 +31,7 @@ use Rattle.matrices.proofs.Rows.{length-matrix, at-matrix}
 
 -- ---- the offset is at most 61
 
+-- of at most 64k coupons
 pub offset-most : (k c : ℕ) → 0 < k → c ≤ 64 * k → offsetAt k c ≤ 61
 unfolding offsetAt
 offset-most k c p h =

@@ -30,20 +30,24 @@ module _ (k c : ℕ) (window ps : List ℕ) where
 
 -- a row more of a matrix that is given by a test
 module _ (m : List ℕ) (k : ℕ) (f : ℕ → ℕ → Bool) (long : length m ≡ k) where
+  -- the row is stored
   pub expand-turn : (r v : ℕ) → r < k → v ≡ getD (matrixOf k f) r 0 → set (rewritten m (matrixOf k f) r) r v ≡ rewritten m (matrixOf k f) (r + 1)
   expand-turn r v h e = rewritten-turn m (matrixOf k f) (long ∙ sym (length-matrix k f)) r v (omega (arith, length-matrix k f)) e
 
+  -- after the last row
   pub expand-end : rewritten m (matrixOf k f) k ≡ matrixOf k f
   expand-end = ap (rewritten m (matrixOf k f)) (sym (length-matrix k f)) ∙ rewritten-end m (matrixOf k f) (long ∙ sym (length-matrix k f))
 
 -- ---- zeros
 
 module _ (m : List ℕ) where
+  -- a zero more
   pub zero-turn : (r : ℕ) → r < length m → set (rewritten m (replicate (length m) 0) r) r 0 ≡ rewritten m (replicate (length m) 0) (r + 1)
   zero-turn r h =
       let n = length-replicate {A = ℕ} (length m) 0 in
       rewritten-turn m (replicate (length m) 0) (sym n) r 0 (omega arith) (sym (getD-replicate (length m) r 0 0 h))
 
+  -- after the last one
   pub zero-end : rewritten m (replicate (length m) 0) (length m) ≡ replicate (length m) 0
   zero-end =
       let n = length-replicate {A = ℕ} (length m) 0 in

@@ -33,6 +33,7 @@ has-snoc (v ∷ l) w c =
     ∙ ap (λ (t : Bool). t || has w c) (sym (has-or v (ored l) c))
 
 module _ (wide : Bool) (o : ℕ) (m : List ℕ) where
+  -- before the first row
   pub ored-none : oredTo wide o m 0 ≡ 0
   unfolding ored
   ored-none = refl
@@ -62,6 +63,7 @@ module _ (wide : Bool) (o : ℕ) (m : List ℕ) where
   unfolding firstColumn
   ored-end = ap (λ (l : List ℕ). trailingZeros 64 (ored (map (surpriseWord wide o) l))) (take-length m)
 
+  -- it is at most 64
   pub first-column-le : firstColumn wide o m ≤ 64
   unfolding firstColumn
   first-column-le = trailing-le 64 _

@@ -82,14 +82,17 @@ module _ (lg seed other c : ℕ) (window ps values : List ℕ) (e : mergeJudged 
     x : (expandOf lg c window ps lent ≡ accepted []) × (m ≡ expandedMatrix lg c window ps lent)
     x = first-expands lent rows
 
+    -- the stated coupons, their flavor and offset, and as many pairs
     pub sketch-again : splitOf lg m lent out
         ≡ accepted (c ∷ flavorNumber (flavorAt (2 ^ lg) c) ∷ offsetAt (2 ^ lg) c ∷ firstColumn (hasWindow (2 ^ lg) c) (offsetAt (2 ^ lg) c) m ∷ length ps ∷ [])
     sketch-again =
         subst (λ (y : List ℕ). splitOf lg y lent out ≡ accepted (c ∷ flavorNumber (flavorAt (2 ^ lg) c) ∷ offsetAt (2 ^ lg) c ∷ firstColumn (hasWindow (2 ^ lg) c) (offsetAt (2 ^ lg) c) y ∷ length ps ∷ []))
         (sym (x .1)) (split-after-expand lg c window ps lent [] bytes (x .0) lent out rows room)
 
+    -- its window; none is written for Empty and Sparse
     pub window-again : splitWindow lg m lent out ≡ choose (hasWindow (2 ^ lg) c) window lent
     window-again = ap (λ (y : List ℕ). splitWindow lg y lent out) (x .1) ∙ window-after-expand lg c window ps lent [] bytes (x .0) lent out rows room
 
+    -- its pairs
     pub pairs-again : splitPairs lg m lent out ≡ ps ++ drop (length ps) out
     pairs-again = ap (λ (y : List ℕ). splitPairs lg y lent out) (x .1) ∙ pairs-after-expand lg c window ps lent [] bytes (x .0) lent out rows room

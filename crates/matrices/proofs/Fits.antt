@@ -16,11 +16,13 @@ count1-le : (b : Bool) → one b ≤ 1
 count1-le true = omega arith
 count1-le false = omega arith
 
+-- of n tests at most n pass
 pub count-le : (n : ℕ) (p : ℕ → Bool) → countBelow n p ≤ n
 unfolding sumBelow
 count-le zero p = omega arith
 count-le (suc n) p = omega (arith, count-le n p, count1-le (p n))
 
+-- k rows of at most 64 columns
 pub sum-le : (n : ℕ) (f : ℕ → ℕ) → ((r : ℕ) → f r ≤ 64) → sumBelow n f ≤ 64 * n
 unfolding sumBelow
 sum-le zero f h = omega arith
@@ -34,6 +36,7 @@ last-clear : (n : ℕ) (f : ℕ → ℕ) → ((r : ℕ) → f r ≤ 64) → f n 
 unfolding sumBelow
 last-clear n f h l = omega (arith, sum-le n f h)
 
+-- so the coupons fit a u32
 pub coupons-fit : (lg : ℕ) (m : List ℕ) → lg ≤ 26 → length m ≡ 2 ^ lg → reserved lg m ≡ false → coupons m < 2 ^ 32
 unfolding coupons
 coupons-fit lg m l n c =

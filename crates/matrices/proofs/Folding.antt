@@ -29,15 +29,19 @@ module _ (m : List ℕ) (k : ℕ) where
   abbrev falls : ℕ → ℕ → ℕ → Bool
   falls r c t = eqb (t % k) r && at m t c
 
+  -- a row below k
   pub partly-low : (s r c : ℕ) → r < k → partly k s m r c ≡ anyBelow s (falls r c)
   partly-low s r c h = rw (lt-ltb r k h) refl
 
+  -- a row that was folded
   pub partly-past : (s r c : ℕ) → k ≤ r → r < s → partly k s m r c ≡ false
   partly-past s r c h l = rw (le-ltb r k h, lt-leb s r l) refl
 
+  -- a row that is still to be folded
   pub partly-rest : (s r c : ℕ) → k ≤ r → s ≤ r → partly k s m r c ≡ at m r c
   partly-rest s r c h l = rw (le-ltb r k h, le-leb s r l) refl
 
+  -- before the first turn: the rows from k on are as they were
   pub fold-start : k ≤ length m → ((r : ℕ) → getD m r 0 < 2 ^ 64) → m ≡ matrixOf (length m) (partly k k m)
   fold-start l w =
       matrix-is m (length m) (partly k k m) refl w
@@ -49,6 +53,7 @@ module _ (m : List ℕ) (k : ℕ) where
       ∙ any-same k (falls r c) (λ t. eqb t r && at m t c) (λ t u. ap (λ (x : ℕ). eqb x r && at m t c) (mod-eq-of-lt u))
       ∙ any-one k r (λ t. at m t c) g)) (λ (g : k ≤ r). sym (partly-rest k r c g g)) (lt-or-le r k))
 
+  -- after the last: the matrix is folded
   pub fold-end : matrixOf (length m) (partly k (length m) m) ≡ matrixOf (length m) (folded k m)
   fold-end =
       matrix-same (length m) (partly k (length m) m) (folded k m)
@@ -92,6 +97,7 @@ module _ (m : List ℕ) (k : ℕ) where
         (λ (b : s ≤ r). partly-rest s r c l b ∙ sym (partly-rest (s + 1) r c l (omega arith))) (lt-or-le r s)) (lt-or-le r k))
         (same-or-not r (s % k))) (same-or-not r s)
 
+    -- the two stores of a turn
     pub fold-turn : s < length m
         → set (set (matrixOf (length m) f) (s % k) (wordOf 64 (λ c. at (matrixOf (length m) f) (s % k) c || at (matrixOf (length m) f) s c))) s 0
         ≡ matrixOf (length m) (partly k (s + 1) m)

@@ -88,6 +88,7 @@ module _ (o k : ℕ) (window ps : List ℕ) (ok : Parts o k window ps) where
         (λ (l : 64 ≤ c). has-out 64 (rowOf r) c (wordOf-lt 64 (λ d. inList ps (64 * r + d))) l) (lt-or-le c 64);
   }
 
+  -- the split of lawful parts has their window
   pub windows-expand : windows o m ≡ window
   windows-expand =
       ext-getD 0 (windows o m) window (length-map m (windowAt o) ∙ length-matrix k (expanded o window ps) ∙ sym (ok .long))
@@ -105,6 +106,7 @@ module _ (o k : ℕ) (window ps : List ℕ) (ok : Parts o k window ps) where
       ap (λ (w : ℕ). has w (x % 64)) (ap (surprisesAt o) (row r b) ∙ surprises-join o (getD window r 0) (rowOf r) (lawful r))
       ∙ has-wordOf 64 (λ c. inList ps (64 * r + c)) (x % 64) l ∙ ap (inList ps) e
 
+  -- and their list
   pub surprises-expand : surprisePairs true o m ≡ ps
   unfolding surprisePairs
   surprises-expand =

@@ -14,6 +14,7 @@ use Rattle.matrices.specs.Matrix.{inWindow}
 use Rattle.matrices.specs.Shapes.{joinedAt, Between}
 use Rattle.matrices.specs.Source.{expanded}
 
+-- a row, column by column
 pub join-expanded : (o : ℕ) (window ps : List ℕ) (r s c : ℕ) → s ≡ wordOf 64 (λ d. inList ps (64 * r + d)) → c < 64
     → has (joinedAt o (getD window r 0) s) c ≡ expanded o window ps r c
 join-expanded o window ps r s c e l =
@@ -21,5 +22,6 @@ join-expanded o window ps r s c e l =
     ∙ ap (λ (t : Bool). (inWindow o c && has (getD window r 0) (c - o)) || (not (inWindow o c) && differs t (ltb c o)))
     (ap (λ (x : ℕ). has x c) e ∙ has-wordOf 64 (λ d. inList ps (64 * r + d)) c l)
 
+-- before the first pair
 pub between-first : (ps : List ℕ) → Between ps 0 0 0
 between-first ps = record { within = omega arith; before = λ i h. absurd (not-suc-le-zero h); after = λ i h k. omega arith }

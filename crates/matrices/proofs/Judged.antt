@@ -45,12 +45,15 @@ rising k place least (pair ∷ more) e (suc i) (suc j) l h =
     rising k (suc place) (suc pair) more (head k place least pair more e .1) i j (le-of-suc-le-suc l) (le-of-suc-le-suc h)
 
 module _ (k : ℕ) (pairs : List ℕ) (e : pairsJudged k pairs ≡ accepted []) where
+  -- it is increasing
   pub judged-sorted : Sorted pairs
   judged-sorted = record { less = rising k 0 0 pairs e }
 
+  -- its rows are below k
   pub judged-row : (i : ℕ) → i < length pairs → getD pairs i 0 / 64 < k
   judged-row i h = each k 0 0 pairs e i h .row
 
+  -- and its pairs below 64·k
   pub judged-below : (i : ℕ) → i < length pairs → getD pairs i 0 < 64 * k
   judged-below i h = omega (arith, judged-row i h)
 

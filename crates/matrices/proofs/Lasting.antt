@@ -35,12 +35,15 @@ pub record InOrder (lg present : ℕ) (m : List ℕ) : Type 0 where
 
 -- then the next merge gives neither 2 nor 15 for it, and its coupons fit a u32
 module _ (lg present : ℕ) (m : List ℕ) (u : InOrder lg present m) where
+  -- not 2
   pub never-two : wrongRows lg m ≡ false
   never-two = right-rows lg m (u .rows)
 
+  -- not 15
   pub never-fifteen : not (lawfulUnion lg present m) ≡ false
   never-fifteen = ap not (u .lawful)
 
+  -- its coupons
   pub order-fits : lg ≤ 26 → coupons m < 2 ^ 32
   order-fits l = coupons-fit lg m l (u .rows) (lawful-is lg present m (u .lawful) .clear)
 
@@ -50,6 +53,7 @@ clear-by lg m h =
     never-true (reserved lg m)
     (λ e. true≢false (sym (and-right (eqb lg 26) (at m 67108863 63) e) ∙ h (eqb-true lg 26 (and-left (eqb lg 26) (at m 67108863 63) e))))
 
+-- and only there
 pub clear-at : (lg : ℕ) (m : List ℕ) → reserved lg m ≡ false → lg ≡ 26 → at m 67108863 63 ≡ false
 clear-at lg m e q = sym (ap (λ (t : Bool). t && at m 67108863 63) (eq-eqb lg 26 q)) ∙ e
 
@@ -64,6 +68,7 @@ pub zeros-matrix : (n : ℕ) → replicate n 0 ≡ matrixOf n (λ r c. false)
 zeros-matrix n =
     matrix-is (replicate n 0) n (λ r c. false) (length-replicate n 0) (λ r. omega (arith, zeros n r, pow-pos 64)) (λ r c h l. ap (λ (w : ℕ). has w c) (zeros n r) ∙ has-zero c)
 
+-- zeros are in order
 pub zeros-in-order : (lg n : ℕ) → outside lg ≡ false → n ≡ 2 ^ lg → InOrder lg lg (replicate n 0)
 zeros-in-order lg n inside rows = record {
   rows = length-replicate n 0 ∙ rows;
@@ -78,6 +83,7 @@ zeros-in-order lg n inside rows = record {
       });
 }
 
+-- an accepted new union is in order
 pub new-in-order : (lg seed : ℕ) (m values : List ℕ) → newUnionOf lg seed m ≡ accepted values → InOrder lg lg (newMatrix lg seed m)
 new-in-order lg seed m values e =
     let a = new-accepted lg seed m values e in
@@ -157,6 +163,7 @@ module _ (lg present seed : ℕ) (m : List ℕ) (from other c : ℕ) (window ps 
         });
   }
 
+-- what an accepted merge leaves is in order
 pub merge-in-order : (lg present seed : ℕ) (m : List ℕ) (from other c : ℕ) (window ps values : List ℕ) → ((r : ℕ) → getD m r 0 < 2 ^ 64)
     → mergeJudged lg present seed m from other c window ps ≡ accepted values
     → InOrder lg (presentAfter present from c) (mergedMatrix lg present seed m from other c window ps)

@@ -52,6 +52,7 @@ pub record Lawful (lg present : ℕ) (m : List ℕ) : Type 0 where
   pub rest : (r : ℕ) → 2 ^ present ≤ r → getD m r 0 ≡ 0
   pub clear : reserved lg m ≡ false
 
+-- the test that gives 15 finds just this
 pub lawful-is : (lg present : ℕ) (m : List ℕ) → lawfulUnion lg present m ≡ true → Lawful lg present m
 unfolding lawfulUnion
 lawful-is lg present m e =
@@ -64,6 +65,7 @@ lawful-is lg present m e =
       clear = not-true (reserved lg m) (and-right (zeroFrom (2 ^ present) m) (not (reserved lg m)) b);
     }
 
+-- and nothing else
 pub lawful-of : (lg present : ℕ) (m : List ℕ) → Lawful lg present m → lawfulUnion lg present m ≡ true
 unfolding lawfulUnion
 lawful-of lg present m l =

@@ -13,6 +13,7 @@ use Rattle.laws.proofs.Trailing.{trailing-lt}
 use Rattle.matrices.specs.Shapes.{rowPairs}
 use Rattle.matrices.proofs.Listed.{row-first, row-none}
 
+-- the first element of what is left of a list
 pub drop-head : (l : List ℕ) (j x : ℕ) (t : List ℕ) → drop j l ≡ x ∷ t → (j < length l) × (getD l j 0 ≡ x) × (drop (suc j) l ≡ t)
 drop-head l j x t e =
     let n : length (drop j l) ≡ suc (length t) = ap length e in
@@ -30,6 +31,7 @@ pub record Listed (row w n : ℕ) (before out : List ℕ) (rest i : ℕ) : Type 
   pub done : out ≡ paste before n (rowPairs row w) (i - n)
 
 module _ (row w n : ℕ) (before : List ℕ) where
+  -- before the first turn nothing is written
   pub list-start : w < 2 ^ 64 → n + length (rowPairs row w) ≤ length before → Listed row w n before before w n
   list-start h r = record {
     from = omega arith;
@@ -45,12 +47,15 @@ module _ (row w n : ℕ) (before : List ℕ) where
         × (drop (suc (i - n)) (rowPairs row w) ≡ rowPairs row (bitXor rest (2 ^ trailingZeros 64 rest)))
     first = drop-head (rowPairs row w) (i - n) _ _ (s .left ∙ row-first row rest (s .fits) p)
 
+    -- there is room for the next pair
     pub list-room : i < length before
     list-room = omega (arith, s .from, s .room, first .0)
 
+    -- each turn leaves fewer pairs
     pub list-less : length (rowPairs row (bitXor rest (2 ^ trailingZeros 64 rest))) < length (rowPairs row rest)
     list-less = omega (arith, ap length (row-first row rest (s .fits) p))
 
+    -- the lowest column is listed, and taken out of the word
     pub list-turn : Listed row w n before (set out i (64 * row + trailingZeros 64 rest)) (bitXor rest (2 ^ trailingZeros 64 rest)) (i + 1)
     list-turn =
         let j : i ≡ n + (i - n) = omega (arith, s .from) in
@@ -76,5 +81,6 @@ module _ (row w n : ℕ) (before : List ℕ) where
       let e : i - n ≡ length (rowPairs row w) = omega (arith, length-drop (i - n) (rowPairs row w), s .most) in
       (omega (arith, s .from), s .done ∙ ap (paste before n (rowPairs row w)) e)
 
+  -- the list stays as long as it was
   pub list-length : (out : List ℕ) (rest i : ℕ) → Listed row w n before out rest i → length out ≡ length before
   list-length out rest i s = ap length (s .done) ∙ length-paste before n (rowPairs row w) (i - n) (omega (arith, s .most, s .room)) (s .most)

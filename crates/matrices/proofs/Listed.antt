@@ -18,12 +18,14 @@ use Rattle.laws.proofs.Trailing.{trailing-at, trailing-below, trailing-lt}
 use Rattle.matrices.specs.Listing.{only, listFrom}
 use Rattle.matrices.specs.Shapes.{rowPairs}
 
+-- tests that agree give the same list
 pub list-same : (a n : ℕ) (p q : ℕ → Bool) → ((c : ℕ) → c < n → p (a + c) ≡ q (a + c)) → listFrom a n p ≡ listFrom a n q
 unfolding listFrom
 list-same a zero p q e = refl
 list-same a (suc n) p q e =
     ap₂ (λ (l : List ℕ) (b : Bool). l ++ only b (a + n)) (list-same a n p q (λ c h. e c (omega arith))) (e n (omega arith))
 
+-- a test that no number passes gives an empty list
 pub list-none : (a n : ℕ) (p : ℕ → Bool) → ((c : ℕ) → c < n → p (a + c) ≡ false) → listFrom a n p ≡ []
 unfolding listFrom
 list-none a zero p e = refl
@@ -67,6 +69,7 @@ differs-out true false f = refl
 differs-out false true f = sym (f refl)
 differs-out false false f = refl
 
+-- the lowest column of a word is its first pair; the others are those of the word without it
 pub row-first : (row w : ℕ) → w < 2 ^ 64 → 0 < w
     → rowPairs row w ≡ (64 * row + trailingZeros 64 w) ∷ rowPairs row (bitXor w (2 ^ trailingZeros 64 w))
 row-first row w h p =
@@ -95,5 +98,6 @@ row-first row w h p =
         ⊎-elim (λ (e : c ≡ t). eq-eqb ((64 * row + c) % 64) t (omega arith) ∙ sym (eq-eqb (64 * row + c) (64 * row + t) (omega arith)))
         (λ (n : c ≡ t → ⊥). ne-eqb ((64 * row + c) % 64) t (omega arith) ∙ sym (ne-eqb (64 * row + c) (64 * row + t) (omega arith))) (same-or-not c t)
 
+-- an empty word has no pairs
 pub row-none : (row : ℕ) → rowPairs row 0 ≡ []
 row-none row = list-none (64 * row) 64 (λ x. has 0 (x % 64)) (λ c l. has-zero ((64 * row + c) % 64))

@@ -106,6 +106,7 @@ module _ (ps : List ℕ) (s : Sorted ps) where
           (λ (k : getD ps j 0 ≡ n → ⊥). missed n j b (λ l. omega (arith, b .after j (omega arith) h)) (u .2)) (same-or-not (getD ps j 0) n))
           (λ (h : length ps ≤ j). missed n j b (λ l. omega arith) (u .2)) (lt-or-le j (length ps))
 
+  -- so that n numbers give the whole list
   pub list-of-sorted : (n : ℕ) → ((i : ℕ) → i < length ps → getD ps i 0 < n) → listFrom 0 n (inList ps) ≡ ps
   unfolding Upto
   list-of-sorted n h =

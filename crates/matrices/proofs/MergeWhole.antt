@@ -100,6 +100,7 @@ abbrev pub pairsTo : ℕ → List ℕ → List ℕ → ℕ → ℕ → ℕ → B
 pairsTo k m ps i r c = at m r c || anyBelow i (λ j. eqb (getD ps j 0 / 64 % k) r && eqb c (getD ps j 0 % 64))
 
 module _ (k : ℕ) (m ps : List ℕ) where
+  -- before the first pair
   pub pairs-start : ((r : ℕ) → getD m r 0 < 2 ^ 64) → m ≡ matrixOf (length m) (pairsTo k m ps 0)
   unfolding anyBelow
   pairs-start w = matrix-is m (length m) (pairsTo k m ps 0) refl w (λ r c h l. sym (or-false (at m r c)))

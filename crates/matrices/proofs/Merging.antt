@@ -29,6 +29,7 @@ regroup true b c d e = refl
 regroup false b c d e = rw e refl
 
 module _ (m : List ℕ) (k : ℕ) (pos : 0 < k) (src : ℕ → ℕ → Bool) where
+  -- before the first row
   pub merge-start : ((r : ℕ) → getD m r 0 < 2 ^ 64) → m ≡ matrixOf (length m) (merged k 0 m src)
   unfolding anyBelow
   merge-start w = matrix-is m (length m) (merged k 0 m src) refl w (λ r c h l. none (at m r c) (ltb r k))

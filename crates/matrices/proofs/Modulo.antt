@@ -18,6 +18,7 @@ down-find k n f r c e =
     let u = any-find n (λ t. eqb (t % k) r && f t c) (and-right (ltb r k) (anyBelow n (λ t. eqb (t % k) r && f t c)) e) in
     (u .0, u .1, eqb-true (u .0 % k) r (and-left (eqb (u .0 % k) r) (f (u .0) c) (u .2)), and-right (eqb (u .0 % k) r) (f (u .0) c) (u .2))
 
+-- and any such row puts it there
 pub down-of : (k n : ℕ) (f : ℕ → ℕ → Bool) (t c : ℕ) → 0 < k → t < n → f t c ≡ true → downTo k n f (t % k) c ≡ true
 down-of k n f t c p h e =
     ap₂ _&&_ (lt-ltb (t % k) k (mod-lt t p)) (any-of n (λ s. eqb (s % k) (t % k) && f s c) t h (ap₂ _&&_ (eq-eqb (t % k) (t % k) refl) e))
@@ -30,6 +31,7 @@ down-past k n f r c h = ap (λ (t : Bool). t && anyBelow n (λ t. eqb (t % k) r 
 pub down-none : (k n r c : ℕ) → downTo k n (λ t d. false) r c ≡ false
 down-none k n r c = never-true (downTo k n (λ t d. false) r c) (λ e. true≢false (sym (down-find k n (λ t d. false) r c e .3)))
 
+-- sets that agree below n
 pub down-same : (k n : ℕ) (f g : ℕ → ℕ → Bool) (r c : ℕ) → ((t : ℕ) → t < n → f t c ≡ g t c) → downTo k n f r c ≡ downTo k n g r c
 down-same k n f g r c e =
     ap (λ (t : Bool). ltb r k && t) (any-same n (λ t. eqb (t % k) r && f t c) (λ t. eqb (t % k) r && g t c) (λ t h. ap (λ (x : Bool). eqb (t % k) r && x) (e t h)))

@@ -25,6 +25,7 @@ flip-flip false false = refl
 pub window-col : (o i : ℕ) → i < 8 → inWindow o (o + i) ≡ true
 window-col o i h = rw (le-leb o (o + i) (omega arith), lt-ltb (o + i) (o + 8) (omega arith)) refl
 
+-- and the other way round
 pub window-from : (o c : ℕ) → inWindow o c ≡ true → (o ≤ c) × (c < o + 8)
 window-from o c e = (leb-true o c (and-left (leb o c) (ltb c (o + 8)) e), ltb-true c (o + 8) (and-right (leb o c) (ltb c (o + 8)) e))
 
@@ -36,6 +37,7 @@ module _ (o : ℕ) where
   joined-out : (b s c : ℕ) → c < 64 → inWindow o c ≡ false → has (joinedAt o b s) c ≡ differs (has s c) (ltb c o)
   joined-out b s c l e = has-wordOf 64 _ c l ∙ rw e refl
 
+  -- no surprise in the window
   pub surprises-in : (w c : ℕ) → c < 64 → inWindow o c ≡ true → has (surprisesAt o w) c ≡ false
   surprises-in w c l e = has-wordOf 64 _ c l ∙ rw e refl
 
@@ -56,6 +58,7 @@ module _ (o : ℕ) where
 
   -- and the word of lawful parts splits into them
   module _ (b s : ℕ) (ok : Lawful o b s) where
+    -- the window is that byte
     pub window-join : windowAt o (joinedAt o b s) ≡ b
     window-join =
         sym (word-is 8 b (λ i. has (joinedAt o b s) (o + i)) (ok .byte)
@@ -64,6 +67,7 @@ module _ (o : ℕ) where
         (λ (h : o + i < 64). sym (joined-in b s (o + i) h (window-col o i l) ∙ ap (has b) (omega arith)))
         (λ (h : 64 ≤ o + i). ok .inside i l h ∙ sym (has-out 64 (joinedAt o b s) (o + i) (wordOf-lt 64 _) h)) (lt-or-le (o + i) 64)))
 
+    -- and the surprises are that word
     pub surprises-join : surprisesAt o (joinedAt o b s) ≡ s
     surprises-join = word-ext 64 _ s (wordOf-lt 64 _) (ok .word) (λ c l. go c l (inWindow o c) refl)
       where
@@ -84,6 +88,7 @@ clear-then-flip o w c = go (inWindow o c) refl
     go true e = ap₂ differs (and-false (has w c)) (in-right o c e)
     go false e = ap (λ (t : Bool). differs t (ltb c o)) (and-true (has w c))
 
+-- first the window is cleared, then the columns below o are flipped
 pub surprises-steps : (o w : ℕ)
     → wordOf 64 (λ c. differs (has (wordOf 64 (λ d. has w d && not (inWindow o d))) c) (ltb c o)) ≡ surprisesAt o w
 surprises-steps o w =
@@ -106,6 +111,7 @@ swap-or false true false = refl
 swap-or false false true = refl
 swap-or false false false = refl
 
+-- first the columns below o are flipped, then the window is cleared, then the byte is put there
 pub joined-steps : (o b s f k : ℕ) → b < 2 ^ 8 → f ≡ wordOf 64 (λ c. differs (has s c) (ltb c o)) → k ≡ wordOf 64 (λ c. has f c && not (inWindow o c))
     → wordOf 64 (λ c. has k c || (leb o c && has b (c - o))) ≡ joinedAt o b s
 joined-steps o b s f k h ef ek =

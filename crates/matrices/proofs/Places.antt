@@ -82,20 +82,25 @@ module _ (o : ℕ) where
   unfolding windowJudged
   window-one i x more = refl
 
+  -- the pass over the window: before the first byte
   pub window-start : (window : List ℕ) → Passed (windowJudged o) window 0
   window-start = pass-start (pastColumns o) (windowJudged o) window-none window-one
 
+  -- a byte without such a bit
   pub window-turn : (window : List ℕ) (i : ℕ) → Passed (windowJudged o) window i → i < length window → pastColumns o (getD window i 0) ≡ false
       → Passed (windowJudged o) window (i + 1)
   window-turn = pass-turn (pastColumns o) (windowJudged o) window-none window-one
 
+  -- a byte with one: refused, with its row
   pub window-stop : (window : List ℕ) (i : ℕ) → Passed (windowJudged o) window i → i < length window → pastColumns o (getD window i 0) ≡ true
       → refused 14 i ≡ windowJudged o 0 window
   window-stop = pass-stop (pastColumns o) (windowJudged o) window-none window-one
 
+  -- after the last byte
   pub window-end : (window : List ℕ) (i : ℕ) → Passed (windowJudged o) window i → length window ≤ i → accepted [] ≡ windowJudged o 0 window
   window-end = pass-end (pastColumns o) (windowJudged o) window-none window-one
 
+  -- it is accepted with no values
   pub window-empty : (window own : List ℕ) → windowJudged o 0 window ≡ accepted own → windowJudged o 0 window ≡ accepted []
   window-empty = pass-empty (pastColumns o) (windowJudged o) window-none window-one 0
 
@@ -111,6 +116,7 @@ module _ (o : ℕ) where
       ∙ pass-each (pastColumns o) (windowJudged o) window-none window-one 0 window e r g)))
       (λ (g : length window ≤ r). ap (λ (x : ℕ). has x i) (List·getD-eq-default window 0 g) ∙ has-zero i) (lt-or-le r (length window))
 
+  -- and no such bit: accepted
   pub window-accepted : (window : List ℕ) → ((r i : ℕ) → i < 8 → 64 ≤ o + i → has (getD window r 0) i ≡ false) → windowJudged o 0 window ≡ accepted []
   window-accepted window f =
       pass-all (pastColumns o) (windowJudged o) window-none window-one 0 window
@@ -124,6 +130,7 @@ module _ (o : ℕ) where
   pub past-none : (b : ℕ) → o ≤ 56 → pastColumns o b ≡ false
   past-none b h = any-none 8 (λ i. leb 64 (o + i) && has b i) (λ i l. ap (λ (t : Bool). t && has b i) (lt-leb 64 (o + i) (omega arith)))
 
+  -- so no window is refused there
   pub window-clear : (window : List ℕ) → o ≤ 56 → windowJudged o 0 window ≡ accepted []
   window-clear window h = pass-all (pastColumns o) (windowJudged o) window-none window-one 0 window (λ r g. past-none (getD window r 0) h)
 
@@ -161,18 +168,23 @@ module _ (o : ℕ) where
   unfolding columnsJudged
   columns-one i x more = refl
 
+  -- the pass over the pairs: before the first pair
   pub columns-start : (ps : List ℕ) → Passed (columnsJudged o) ps 0
   columns-start = pass-start caught (columnsJudged o) columns-none columns-one
 
+  -- a pair out of the window
   pub columns-turn : (ps : List ℕ) (i : ℕ) → Passed (columnsJudged o) ps i → i < length ps → caught (getD ps i 0) ≡ false → Passed (columnsJudged o) ps (i + 1)
   columns-turn = pass-turn caught (columnsJudged o) columns-none columns-one
 
+  -- a pair in it: refused, with its index
   pub columns-stop : (ps : List ℕ) (i : ℕ) → Passed (columnsJudged o) ps i → i < length ps → caught (getD ps i 0) ≡ true → refused 14 i ≡ columnsJudged o 0 ps
   columns-stop = pass-stop caught (columnsJudged o) columns-none columns-one
 
+  -- after the last pair
   pub columns-end : (ps : List ℕ) (i : ℕ) → Passed (columnsJudged o) ps i → length ps ≤ i → accepted [] ≡ columnsJudged o 0 ps
   columns-end = pass-end caught (columnsJudged o) columns-none columns-one
 
+  -- it is accepted with no values
   pub columns-empty : (ps own : List ℕ) → columnsJudged o 0 ps ≡ accepted own → columnsJudged o 0 ps ≡ accepted []
   columns-empty = pass-empty caught (columnsJudged o) columns-none columns-one 0
 
@@ -187,6 +199,7 @@ module _ (o : ℕ) where
       let m : getD ps i 0 % 64 ≡ c = omega arith in
       true≢false (sym w ∙ ap (inWindow o) (sym m) ∙ pass-each caught (columnsJudged o) columns-none columns-one 0 ps e i h)))
 
+  -- and no such pair: accepted
   pub columns-accepted : (ps : List ℕ) → ((r c : ℕ) → c < 64 → inWindow o c ≡ true → inList ps (64 * r + c) ≡ false) → columnsJudged o 0 ps ≡ accepted []
   unfolding inList
   columns-accepted ps f =

@@ -12,10 +12,12 @@ use lib.Seq.{take-length, paste, paste-zero, paste-suc, length-paste}
 abbrev pub rewritten : List ℕ → List ℕ → ℕ → List ℕ
 rewritten old new r = paste old 0 new r
 
+-- before the first element
 pub rewritten-start : (old new : List ℕ) → old ≡ rewritten old new 0
 rewritten-start old new = paste-zero old 0 new
 
 module _ (old new : List ℕ) (l : length old ≡ length new) where
+  -- an element more
   pub rewritten-turn : (r v : ℕ) → r < length new → v ≡ getD new r 0 → set (rewritten old new r) r v ≡ rewritten old new (r + 1)
   rewritten-turn r v h e =
       ap (set (rewritten old new r) r) e
@@ -23,10 +25,12 @@ module _ (old new : List ℕ) (l : length old ≡ length new) where
       ∙ paste-suc old 0 new r 0 (omega (arith, zero-add r)) h
       ∙ ap (rewritten old new) (sym (add-one r))
 
+  -- after the last one
   pub rewritten-end : rewritten old new (length new) ≡ new
   rewritten-end =
       let z : length old ≤ 0 + length new = omega (arith, zero-add (length new)) in
       ap₂ (λ (x y : List ℕ). x ++ y) (take-length new) (drop-of-length-le old z) ∙ append-nil new
 
+  -- the list stays as long as it was
   pub rewritten-length : (r : ℕ) → r ≤ length new → length (rewritten old new r) ≡ length old
   rewritten-length r h = length-paste old 0 new r (omega (arith, zero-add r)) h

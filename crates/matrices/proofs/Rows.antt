@@ -17,6 +17,7 @@ use Rattle.laws.proofs.Words.{has-wordOf, word-is, wordOf-same}
 use Rattle.matrices.specs.Matrix.{at, matrixOf}
 use Rattle.matrices.specs.Shapes.{withPair}
 
+-- k rows
 pub length-matrix : (k : ℕ) (f : ℕ → ℕ → Bool) → length (matrixOf k f) ≡ k
 unfolding matrixOf
 length-matrix zero f = refl
@@ -29,6 +30,7 @@ row-matrix zero f r h = absurd (not-suc-le-zero h)
 row-matrix (suc k) f zero h = refl
 row-matrix (suc k) f (suc r) h = row-matrix k (λ t. f (suc t)) r (le-of-suc-le-suc h)
 
+-- it holds just those pairs
 pub at-matrix : (k : ℕ) (f : ℕ → ℕ → Bool) (r c : ℕ) → r < k → c < 64 → at (matrixOf k f) r c ≡ f r c
 at-matrix k f r c h l = ap (λ (w : ℕ). has w c) (row-matrix k f r h) ∙ has-wordOf 64 (f r) c l
 
@@ -41,6 +43,7 @@ matrix-is m k f n w e =
     let l : r < k = omega arith in
     word-is 64 (getD m r 0) (f r) (w r) (λ c b. e r c l b) ∙ sym (row-matrix k f r l))
 
+-- tests that agree give the same matrix
 pub matrix-same : (k : ℕ) (f g : ℕ → ℕ → Bool) → ((r c : ℕ) → r < k → c < 64 → f r c ≡ g r c) → matrixOf k f ≡ matrixOf k g
 unfolding matrixOf
 matrix-same zero f g e = refl
@@ -52,9 +55,11 @@ matrix-same (suc k) f g e =
 abbrev pub put : (ℕ → ℕ → Bool) → ℕ → (ℕ → Bool) → ℕ → ℕ → Bool
 put f i p r c = (eqb r i && p c) || (not (eqb r i) && f r c)
 
+-- in row i
 pub put-same : (f : ℕ → ℕ → Bool) (i : ℕ) (p : ℕ → Bool) (r c : ℕ) → r ≡ i → put f i p r c ≡ p c
 put-same f i p r c e = rw (eq-eqb r i e) (or-false (p c))
 
+-- in another row
 pub put-other : (f : ℕ → ℕ → Bool) (i : ℕ) (p : ℕ → Bool) (r c : ℕ) → (r ≡ i → ⊥) → put f i p r c ≡ f r c
 put-other f i p r c e = rw (ne-eqb r i e) refl
 
@@ -85,10 +90,12 @@ set-matrix k f i p h =
 pub matrix-self : (m : List ℕ) → ((r : ℕ) → getD m r 0 < 2 ^ 64) → m ≡ matrixOf (length m) (at m)
 matrix-self m w = matrix-is m (length m) (at m) refl w (λ r c h l. refl)
 
+-- a row more
 pub store-row : (m : List ℕ) → ((r : ℕ) → getD m r 0 < 2 ^ 64) → (i : ℕ) (p : ℕ → Bool) → i < length m
     → set m i (wordOf 64 p) ≡ matrixOf (length m) (put (at m) i p)
 store-row m w i p h = ap (λ (x : List ℕ). set x i (wordOf 64 p)) (matrix-self m w) ∙ set-matrix (length m) (at m) i p h
 
+-- a pair more
 pub store-pair : (m : List ℕ) → ((r : ℕ) → getD m r 0 < 2 ^ 64) → (p : ℕ) → p / 64 < length m
     → set m (p / 64) (wordOf 64 (λ c. at m (p / 64) c || eqb c (p % 64))) ≡ matrixOf (length m) (withPair m p)
 store-pair m w p h =

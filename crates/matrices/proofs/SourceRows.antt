@@ -22,12 +22,14 @@ module _ (ps : List ℕ) (row : ℕ) where
   abbrev pub gathered : ℕ → ℕ → Bool
   gathered i c = anyBelow i (λ j. eqb (getD ps j 0) (64 * row + c))
 
+  -- before the first pair of the row
   pub gather-start : (n : ℕ) → Between ps n (64 * row) (64 * row) → 0 ≡ wordOf 64 (gathered n)
   gather-start n b =
       sym (wordOf-none 64)
       ∙ wordOf-same 64 (λ c. false) (gathered n)
       (λ c l. sym (any-none n (λ j. eqb (getD ps j 0) (64 * row + c)) (λ j h. ne-eqb (getD ps j 0) (64 * row + c) (omega (arith, b .before j h)))))
 
+  -- a pair of the row more
   pub gather-turn : (i : ℕ) → getD ps i 0 / 64 ≡ row
       → wordOf 64 (λ c. has (wordOf 64 (gathered i)) c || eqb c (getD ps i 0 % 64)) ≡ wordOf 64 (gathered (i + 1))
   gather-turn i e =
@@ -39,6 +41,7 @@ module _ (ps : List ℕ) (row : ℕ) where
       (same-or-not c (getD ps i 0 % 64)))
       ∙ sym (any-more i (λ j. eqb (getD ps j 0) (64 * row + c))))
 
+  -- after the last one
   pub gather-end : (i : ℕ) → Between ps i (64 * row + 64) (64 * row + 64) → wordOf 64 (gathered i) ≡ wordOf 64 (λ c. inList ps (64 * row + c))
   unfolding inList
   gather-end i b =
@@ -50,9 +53,11 @@ module _ (ps : List ℕ) (row : ℕ) where
       ∙ any-extend (length ps - i) i p (λ t h g. ne-eqb (getD ps t 0) (64 * row + c) (omega (arith, b .after t h (omega (arith, add-sub-of-le (b .within))))))))
 
 module _ (ps : List ℕ) where
+  -- a row is begun
   pub between-start : (n lo hi : ℕ) → lo ≤ hi → Between ps n lo lo → Between ps n lo hi
   between-start n lo hi l b = record { within = b .within; before = λ i h. omega (arith, b .before i h); after = b .after }
 
+  -- a pair of the row was passed
   pub between-more : (n lo hi : ℕ) → n < length ps → getD ps n 0 < hi → Between ps n lo hi → Between ps (n + 1) lo hi
   between-more n lo hi l g b = record {
     within = omega arith;
@@ -60,6 +65,7 @@ module _ (ps : List ℕ) where
     after = λ i h k. b .after i (omega arith) k;
   }
 
+  -- the next pair is past the row
   pub between-stop : (n lo hi : ℕ) → Sorted ps → (n < length ps → hi ≤ getD ps n 0) → Between ps n lo hi → Between ps n hi hi
   between-stop n lo hi s e b = record {
     within = b .within;

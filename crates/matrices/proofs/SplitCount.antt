@@ -14,6 +14,7 @@ use Rattle.matrices.proofs.Listed.{row-none}
 use Rattle.matrices.proofs.SplitTurn.{listedTo, to-none, to-more}
 
 module _ (wide : Bool) (o : ℕ) (m : List ℕ) where
+  -- before the first row
   pub length-none : length (listedTo wide o m 0) ≡ 0
   length-none = ap length (to-none wide o m)
 

@@ -44,6 +44,7 @@ each-more n p l false e f i h =
     let u = f i z in
     subst (λ (x : ℕ). (x < suc n) × (p x ≡ true)) (sym (List·getD-append l [] 0 i z)) (omega (arith, u .0), u .1)
 
+-- every member passed the test
 pub list-each : (n : ℕ) (p : ℕ → Bool) (i : ℕ) → i < length (listFrom 0 n p) → (getD (listFrom 0 n p) i 0 < n) × (p (getD (listFrom 0 n p) i 0) ≡ true)
 unfolding Each listFrom
 list-each zero p i h = absurd (not-suc-le-zero h)
@@ -71,6 +72,7 @@ sorted-more n l false f s = record {
       omega (arith, s .less i j h b, List·getD-append l [] 0 i a, List·getD-append l [] 0 j b);
 }
 
+-- and is above the one before
 pub list-sorted : (n : ℕ) (p : ℕ → Bool) → Sorted (listFrom 0 n p)
 unfolding listFrom
 list-sorted zero p = record { less = λ i j h g. absurd (not-suc-le-zero g) }
@@ -80,6 +82,7 @@ list-sorted (suc n) p =
 
 -- ---- an increasing list of lawful pairs is accepted
 
+-- every pair below k, none the reserved number
 pub judged-of : (k place least : ℕ) (ps : List ℕ) → Sorted ps → ((i : ℕ) → i < length ps → Pair k least (getD ps i 0)) → judgedFrom k place least ps ≡ accepted []
 unfolding judgedFrom
 judged-of k place least [] s f = refl

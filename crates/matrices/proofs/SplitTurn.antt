@@ -18,15 +18,18 @@ use Rattle.matrices.proofs.Rewriting.{rewritten, rewritten-turn, rewrit
 abbrev pub over : List ℕ → List ℕ → List ℕ
 over l out = l ++ drop (length l) out
 
+-- nothing is written
 pub over-none : (out : List ℕ) → out ≡ over [] out
 over-none out = refl
 
+-- more is written after it
 pub over-turn : (l r out : List ℕ) → paste (over l out) (length l) r (length r) ≡ over (l ++ r) out
 over-turn l r out =
     ap₂ (λ (x y : List ℕ). x ++ y ++ drop (length l + length r) (over l out)) (take-at l (drop (length l) out) (length l) refl) (take-length r)
     ∙ ap (λ (x : List ℕ). l ++ r ++ x)
     (drop-append-add l (drop (length l) out) (length r) ∙ drop-drop (length r) (length l) out ∙ ap (λ (n : ℕ). drop n out) (sym (length-append l r)))
 
+-- an element of a list that a function was applied to
 pub getD-map : (f : ℕ → ℕ) (l : List ℕ) (i : ℕ) → i < length l → getD (map f l) i 0 ≡ f (getD l i 0)
 getD-map f [] i h = absurd (not-suc-le-zero h)
 getD-map f (x ∷ l) zero h = refl
@@ -44,10 +47,12 @@ module _ (wide : Bool) (o : ℕ) (m : List ℕ) where
   abbrev surprising : ℕ → Bool
   surprising x = has (surpriseWord wide o (getD m (x / 64) 0)) (x % 64)
 
+  -- before the first row
   pub to-none : listedTo wide o m 0 ≡ []
   unfolding listFrom
   to-none = refl
 
+  -- a row more
   pub to-more : (r : ℕ) → listedTo wide o m (r + 1) ≡ listedTo wide o m r ++ rowPairs r (surpriseWord wide o (getD m r 0))
   to-more r =
       let e : 64 * (r + 1) ≡ 64 * r + 64 = omega arith in
@@ -60,6 +65,7 @@ module _ (wide : Bool) (o : ℕ) (m : List ℕ) where
       let q : (64 * r + c) / 64 ≡ r = omega arith in
       ap (λ (x : ℕ). has (surpriseWord wide o (getD m x 0)) ((64 * r + c) % 64)) q))
 
+  -- after the last row
   pub to-all : listedTo wide o m (length m) ≡ surprisePairs wide o m
   unfolding surprisePairs
   to-all = refl
@@ -91,6 +97,7 @@ module _ (wide : Bool) (o : ℕ) (m : List ℕ) where
             ∙ over-turn d (rowOf r) out₀ ∙ ap (λ (l : List ℕ). over l out₀) (sym (to-more r)),
       )
 
+  -- so there is room in the list that is lent
   pub list-room : (out₀ : List ℕ) (r n s : ℕ) → r < length m → n ≡ length (listedTo wide o m r) → s ≡ surpriseWord wide o (getD m r 0) → length (surprisePairs wide o m) ≤ length out₀ → n + length (rowPairs r s) ≤ length out₀
   list-room out₀ r n s h en es l = omega (arith, to-room r h, ap (λ (y : ℕ). length (rowPairs r y)) es)
 

@@ -34,12 +34,14 @@ module _ (lg present : ℕ) (m : List ℕ) (u : InOrder lg present m) (small : l
       let p : 2 ^ present ≤ 2 ^ lg = pow-mono {i = present} {j = lg} (l .most) in
       omega (arith, u .rows)
 
+  -- they are k rows
   pub first-rows : length first ≡ 2 ^ present
   first-rows = length-take-le (2 ^ present) m within
 
   inside : outside present ≡ false
   inside = ap₂ _||_ (le-ltb present 4 (l .least)) (le-ltb 26 present (omega (arith, l .most)))
 
+  -- their reserved bit is clear
   pub first-clear : reserved present first ≡ false
   first-clear =
       clear-by present first
