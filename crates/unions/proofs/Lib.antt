@@ -6,5 +6,6 @@ pub mod MergeTold
 pub mod PlanSteps
 pub mod ShapeTold
 pub mod SourceTaken
+pub mod SplitTold
 pub mod Summing
 pub mod Zeroing

@@ -1,5 +1,5 @@
 -- What the numbers' calls tell of a source: its shape, or refusal 1 or 17. Assumes nothing.
-use mathlib.Core.Path.{_≡_, refl, sym, ap, _∙_, subst}
+use mathlib.Core.Path.{_≡_, refl, sym, ap, ap₂, _∙_, subst}
 use mathlib.Core.Bool.{Bool, true, false, _||_}
 use mathlib.Core.List.{[], _∷_}
 use Prim.Native.Nat.{ℕ, _*_, _^_, _≤_}
@@ -66,7 +66,7 @@ flavor-given lg c n i e =
     cc
 
 pub shape-given : (lg c o : ℕ) (f : Flavor) (w : Bool) → accepted (o ∷ []) ≡ offsetOf lg c → accepted (flavorNumber f ∷ []) ≡ flavorOf lg c → w ≡ windowed f
-    → (shapeJudged lg c ≡ accepted []) × ShapeOf lg c (record { wide = w; offset = o })
+    → (shapeJudged lg c ≡ accepted []) × ShapeOf lg c (record { flavor = f; wide = w; offset = o })
 unfolding shapeJudged
 shape-given lg c o f w eo ef ew =
     let g = offset-given lg c o eo in
@@ -79,6 +79,7 @@ shape-given lg c o f w eo ef ew =
         high = b .1;
         most = m;
         wide = ew ∙ ap windowed is;
+        flavor = is;
         offset = g .2;
         small = subst (λ (x : ℕ). x ≤ 61) (sym (g .2)) (offset-most (2 ^ lg) c (pow-pos lg) m);
       },
@@ -90,3 +91,11 @@ unfolding flavorOf
 flavor-never lg c o why x eo ef =
     let i = offset-given lg c o eo .0 in
     absurd (never-accepted why _ (sym (ef ∙ ap (λ (b : Bool). choose b (refused 1 0) (accepted (flavorNumber (flavorAt (2 ^ lg) c) ∷ []))) i)))
+
+-- a matrix has no more coupons than 64k, so that it has a shape
+pub shape-never : (lg c : ℕ) (why : Refusal) (x : Outcome) → 4 ≤ lg → lg ≤ 26 → c ≤ 64 * 2 ^ lg → told why ≡ shapeJudged lg c → told why ≡ x
+unfolding shapeJudged
+shape-never lg c why x l h m e =
+    absurd
+    (never-accepted why []
+    (sym (e ∙ ap₂ (λ (a b : Bool). choose a (refused 1 0) (choose b (refused 17 0) (accepted []))) (inside-of lg l h) (le-ltb (64 * 2 ^ lg) c m))))

@@ -2,7 +2,8 @@
 use mathlib.Core.Path.{_≡_}
 use Prim.Native.Nat.{ℕ, _*_, _/_, _%_, _^_, _≤_}
 use mathlib.Core.Bool.{Bool, true, not, _&&_, _||_}
-use mathlib.Core.List.{List, []}
+use mathlib.Core.List.{List, [], _∷_}
+use lib.Count.{trailingZeros}
 use lib.Dec.{eqb, ltb}
 use lib.ListN.{length, getD}
 use Rattle.laws.specs.Below.{anyBelow, everyBelow}
@@ -10,14 +11,18 @@ use Rattle.laws.specs.Choose.{choose}
 use Rattle.refusals.specs.Outcome.{Outcome, accepted, refused}
 use Rattle.refusals.specs.Told.{told}
 use Rattle.numbers.specs.Calls.{outside}
-use Rattle.numbers.specs.Numbers.{offsetAt}
+use Rattle.numbers.specs.Numbers.{flavorAt, offsetAt}
+use Rattle.numbers.specs.Told.{flavorNumber}
 use Rattle.pair_lists.specs.Lists.{pairsJudged}
+use Rattle.matrices.specs.Calls.{wrongRows, offsetIn, windowIn, listed}
 use Rattle.matrices.specs.Matrix.{at, matrixOf, coupons, reserved}
+use Rattle.matrices.specs.Parts.{surprisePairs, firstColumn}
 use Rattle.matrices.specs.Shapes.{folded, merged}
 use Rattle.matrices.specs.Source.{expanded, hasWindow, held}
 use Rattle.unions.specs.declared.planning.Plan.{Plan}
 use Rattle.unions.specs.declared.planning.Plan.the-variants as plan
 use Rattle.unions.specs.declared.planning.Shape.{Shape}
+use Rattle.unions.specs.declared.splitting.Surprises.{Surprises}
 
 -- m, and the first n pairs of a list, their rows taken mod k
 abbrev pub pairsSet : ℕ → List ℕ → List ℕ → ℕ → ℕ → ℕ → Bool
@@ -53,6 +58,7 @@ pub record ShapeOf (lg c : ℕ) (s : Shape) : Type 0 where
   pub high : lg ≤ 26
   pub most : c ≤ 64 * 2 ^ lg
   pub wide : s .wide ≡ hasWindow (2 ^ lg) c
+  pub flavor : s .flavor ≡ flavorAt (2 ^ lg) c
   pub offset : s .offset ≡ offsetAt (2 ^ lg) c
   pub small : s .offset ≤ 61
 
@@ -77,3 +83,21 @@ unfoldable pub heldJudged : ℕ → ℕ → List ℕ → List ℕ → Outcome
 heldJudged lg c window ps =
     choose (reserved lg (matrixOf (2 ^ lg) (held (2 ^ lg) c window ps))) (refused 10 67108863)
     (choose (not (eqb (coupons (matrixOf (2 ^ lg) (held (2 ^ lg) c window ps))) c)) (refused 17 0) (accepted []))
+
+-- all surprise words of a matrix ORed, and how many surprises there are
+pub record SurpriseSum (wide : Bool) (o : ℕ) (m : List ℕ) (s : Surprises) : Type 0 where
+  pub first : trailingZeros 64 (s .ored) ≡ firstColumn wide o m
+  pub count : s .count ≡ length (surprisePairs wide o m)
+
+-- 5, or what a split says
+unfoldable pub roomJudged : ℕ → List ℕ → ℕ → Outcome
+roomJudged lg m room =
+    choose (ltb room (length (listed lg m))) (refused 5 0)
+    (accepted
+    (coupons m ∷ flavorNumber (flavorAt (2 ^ lg) (coupons m)) ∷ offsetIn lg m ∷ firstColumn (windowIn lg m) (offsetIn lg m) m ∷ length (listed lg m) ∷ []))
+
+-- 1, 2, 10, 5: for a window of so many bytes and a list of so much room
+unfoldable pub splitJudged : ℕ → List ℕ → ℕ → ℕ → Outcome
+splitJudged lg m bytes room =
+    choose (outside lg) (refused 1 0)
+    (choose (wrongRows lg m || not (eqb bytes (2 ^ lg))) (refused 2 0) (choose (reserved lg m) (refused 10 67108863) (roomJudged lg m room)))

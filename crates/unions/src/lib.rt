@@ -2,14 +2,15 @@
 // After src/cpc/union.rs, src/cpc/sketch.rs (build_bit_matrix) and src/cpc/mod.rs (count_bits_set_in_matrix) of the Rust crate datasketches 0.5.0 (Apache-2.0); changed: one lent matrix and a
 // small record for `UnionState`, lent slices for `Vec`, and each call is total and refuses by number.
 ghost use mathlib.Core.Path.{_≡_};
-ghost use Rattle.matrices.specs.Calls.{countOf, expandOf, expandedMatrix, newUnionOf, newMatrix, mergeOf, mergedMatrix};
-ghost use Rattle.unions.specs.Told.{toldCount, toldExpand, toldUnion};
+ghost use Rattle.matrices.specs.Calls.{countOf, splitOf, splitWindow, splitPairs, expandOf, expandedMatrix, newUnionOf, newMatrix, mergeOf, mergedMatrix};
+ghost use Rattle.unions.specs.Told.{toldCount, toldSplit, toldExpand, toldUnion};
 
 mod clearing;
 mod counting;
 mod judging;
 mod merging;
 mod planning;
+mod splitting;
 mod words;
 
 use numbers::Flavor;
@@ -79,6 +80,22 @@ pub fn count(lg: u8, matrix: &[u64]) -> CountAnswer
                 return CountAnswer::Refused(Refusal::Reserved { place: 67108863 });
             }
             CountAnswer::Counted(counting::count_ones_in(matrix) as u32)
+        }
+    }
+}
+
+// A matrix as a sketch: window and list of surprises.
+pub fn split(lg: u8, matrix: &[u64], window: &mut [u8], pairs: &mut [u32]) -> SplitAnswer
+    ensures { λ r. ⌜ (toldSplit r ≡ splitOf lg (now (matrix .entry)) (now (window .entry)) (now (pairs .entry)))
+        × (now (window .exit) ≡ splitWindow lg (now (matrix .entry)) (now (window .entry)) (now (pairs .entry)))
+        × (now (pairs .exit) ≡ splitPairs lg (now (matrix .entry)) (now (window .entry)) (now (pairs .entry))) ⌝ }
+{
+    match splitting::judge_split(lg, matrix, window.len(), pairs.len()) {
+        SplitAnswer::Refused(why) => SplitAnswer::Refused(why),
+        SplitAnswer::Parted(parts) => {
+            let flavor = parts.flavor;
+            splitting::write_parts(matrix, flavor, parts.offset as u64, window, pairs);
+            SplitAnswer::Parted(parts)
         }
     }
 }

@@ -27,8 +27,9 @@ use numbers::determine_flavor;
 use numbers::rows;
 use refusals::Refusal;
 
-// What the stated coupons say of a source: a window or none, and its offset.
+// What the coupons say of a source or a matrix: its flavor, a window or none, and its offset.
 pub struct Shape {
+    pub flavor: Flavor,
     pub wide: bool,
     pub offset: u64,
 }
@@ -38,7 +39,7 @@ pub enum Plan {
     Refused(Refusal),
 }
 
-fn has_window(flavor: Flavor) -> bool
+pub fn has_window(flavor: Flavor) -> bool
     ensures { λ r. ⌜ r ≡ windowed flavor ⌝ }
 {
     match flavor {
@@ -51,7 +52,7 @@ fn has_window(flavor: Flavor) -> bool
 }
 
 // Refusals 1, and 17 where the coupons exceed 64k.
-fn shape_of(lg: u8, coupons: u32) -> Plan
+pub fn shape_of(lg: u8, coupons: u32) -> Plan
     ensures { λ r. ⌜ PlannedBy (shapeJudged lg coupons) lg coupons r ⌝ }
 {
     match determine_correct_offset(lg, coupons) {
@@ -59,6 +60,7 @@ fn shape_of(lg: u8, coupons: u32) -> Plan
         NumberAnswer::Given(offset) => match determine_flavor(lg, coupons) {
             FlavorAnswer::Refused(why) => Plan::Refused(why),
             FlavorAnswer::Flavored(flavor) => Plan::Take(Shape {
+                flavor: flavor,
                 wide: has_window(flavor),
                 offset: offset as u64,
             }),
