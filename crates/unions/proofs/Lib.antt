@@ -3,6 +3,7 @@ pub mod Answered
 pub mod HeldCounted
 pub mod JudgedSteps
 pub mod MergeTold
+pub mod Only
 pub mod PlanSteps
 pub mod ShapeTold
 pub mod SourceTaken
