@@ -13,6 +13,8 @@ use Rattle.unions.specs.declared.ExpandAnswer.{ExpandAnswer}
 use Rattle.unions.specs.declared.ExpandAnswer.the-variants as expand
 use Rattle.unions.specs.declared.UnionAnswer.{UnionAnswer}
 use Rattle.unions.specs.declared.UnionAnswer.the-variants as union
+use Rattle.unions.specs.declared.judging.Judgement.{Judgement}
+use Rattle.unions.specs.declared.judging.Judgement.the-variants as judgement
 
 abbrev pub toldCount : CountAnswer → Outcome
 toldCount (count.Counted n) = accepted (n ∷ [])
@@ -31,3 +33,8 @@ toldExpand (expand.Refused why) = told why
 abbrev pub toldUnion : UnionAnswer → Outcome
 toldUnion (union.Made u) = unionOf (u .lg) (u .present) (u .seed)
 toldUnion (union.Refused why) = told why
+
+-- what is judged on the way
+abbrev pub toldJudged : Judgement → Outcome
+toldJudged judgement.Lawful = accepted []
+toldJudged (judgement.Refused why) = told why

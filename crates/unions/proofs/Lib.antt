@@ -1,0 +1,12 @@
+-- Laws that belong to no one function.
+pub mod Answered
+pub mod HeldCounted
+pub mod JudgedSteps
+pub mod MergeTold
+pub mod Only
+pub mod PlanSteps
+pub mod ShapeTold
+pub mod SourceTaken
+pub mod SplitTold
+pub mod Summing
+pub mod Zeroing

@@ -1,0 +1,84 @@
+-- What the code makes of a source that is judged is what the definitions say. Assumes nothing.
+use mathlib.Core.Path.{_≡_, refl, sym, ap, ap₂, _∙_, subst}
+use mathlib.Core.Logic.{⊎-elim}
+use mathlib.Core.Bool.{Bool, true, false}
+use mathlib.Core.List.{List, []}
+use Prim.Native.Nat.{ℕ, _*_, _+_, _^_, _≤_, _<_, min}
+use native.Mathlib.Nat.{min-eq-left, min-eq-right}
+use native.Mathlib.Omega.{arith}
+use borrow.Author.Tests.{lt-ltb, le-ltb}
+use lib.Dec.{ltb}
+use lib.ListN.{length, getD, replicate, length-replicate}
+use lib.Pow.{pow-pos}
+use Rattle.laws.specs.Choose.{choose}
+use Rattle.laws.proofs.Orders.{lt-or-le}
+use Rattle.refusals.specs.Outcome.{accepted}
+use Rattle.numbers.specs.Numbers.{offsetAt}
+use Rattle.pair_lists.specs.Lists.{pairsJudged}
+use Rattle.matrices.specs.Calls.{mergedAt}
+use Rattle.matrices.specs.Listing.{inList}
+use Rattle.matrices.specs.Matrix.{matrixOf}
+use Rattle.matrices.specs.Shapes.{merged, folded}
+use Rattle.matrices.specs.Source.{expanded, hasWindow, held}
+use Rattle.matrices.proofs.Accepting.{held-wide, held-listed}
+use Rattle.matrices.proofs.Judged.{judged-row}
+use Rattle.matrices.proofs.MergeWhole.{pairs-end, merge-zeros, merge-folded, merge-unfolded}
+use Rattle.matrices.proofs.Rows.{length-matrix}
+use Rattle.unions.specs.Steps.{sourceMerged, pairsSet, lowered}
+
+module _ (from c : ℕ) (window ps : List ℕ) (o : ℕ) (is : o ≡ offsetAt (2 ^ from) c) (pairs : pairsJudged (2 ^ from) ps ≡ accepted [])
+    (long : length window ≡ choose (hasWindow (2 ^ from) c) (2 ^ from) 0) where
+  abbrev set : ℕ → ℕ → Bool
+  set = held (2 ^ from) c window ps
+
+  with-window : (lg : ℕ) (m : List ℕ) → hasWindow (2 ^ from) c ≡ true
+      → matrixOf (length m) (merged (2 ^ lg) (length window) m (expanded o window ps)) ≡ matrixOf (length m) (merged (2 ^ lg) (2 ^ from) m set)
+  with-window lg m w =
+      ap₂ (λ (n : ℕ) (f : ℕ → ℕ → Bool). matrixOf (length m) (merged (2 ^ lg) n m f)) (long ∙ ap (λ (b : Bool). choose b (2 ^ from) 0) w)
+      (ap (λ (x : ℕ). expanded x window ps) is ∙ sym (held-wide (2 ^ from) c window ps w))
+
+  without : (lg : ℕ) (m : List ℕ) → hasWindow (2 ^ from) c ≡ false
+      → matrixOf (length m) (pairsSet (2 ^ lg) m ps (length ps)) ≡ matrixOf (length m) (merged (2 ^ lg) (2 ^ from) m set)
+  without lg m w =
+      pairs-end (2 ^ lg) m ps (2 ^ from) (pow-pos lg) (judged-row (2 ^ from) ps pairs)
+      ∙ ap (λ (f : ℕ → ℕ → Bool). matrixOf (length m) (merged (2 ^ lg) (2 ^ from) m f)) (sym (held-listed (2 ^ from) c window ps w))
+
+  -- a source is merged
+  pub source-merged : (lg : ℕ) (m : List ℕ) → sourceMerged lg (hasWindow (2 ^ from) c) o m window ps ≡ matrixOf (length m) (merged (2 ^ lg) (2 ^ from) m set)
+  source-merged lg m = go (hasWindow (2 ^ from) c) refl
+    where
+      go : (w : Bool) → hasWindow (2 ^ from) c ≡ w → sourceMerged lg w o m window ps ≡ matrixOf (length m) (merged (2 ^ lg) (2 ^ from) m set)
+      go true w = with-window lg m w
+      go false w = without lg m w
+
+  -- into zeros of its own k
+  pub source-filled : (n : ℕ) → n ≡ 2 ^ from → sourceMerged from (hasWindow (2 ^ from) c) o (replicate n 0) window ps ≡ matrixOf (2 ^ from) set
+  source-filled n e =
+      source-merged from (replicate n 0)
+      ∙ ap (λ (k : ℕ). matrixOf k (merged (2 ^ from) (2 ^ from) (replicate n 0) set)) (length-replicate n 0 ∙ e)
+      ∙ ap (λ (k : ℕ). matrixOf (2 ^ from) (merged (2 ^ from) (2 ^ from) (replicate k 0) set)) e
+      ∙ merge-zeros (2 ^ from) set
+
+  -- into a lawful union, folded first where its k is larger
+  pub source-taken : (present : ℕ) (m : List ℕ) → ((r : ℕ) → 2 ^ present ≤ r → getD m r 0 ≡ 0)
+      → sourceMerged (min present from) (hasWindow (2 ^ from) c) o (lowered present from m) window ps ≡ matrixOf (length m) (mergedAt (2 ^ min present from) m (2 ^ from) set)
+  source-taken present m zeros =
+      ⊎-elim
+      (λ (l : from < present).
+      let n : min present from ≡ from = min-eq-right (omega arith) in
+      ap₂ (λ (k : ℕ) (b : Bool). sourceMerged k (hasWindow (2 ^ from) c) o (choose b (matrixOf (length m) (folded (2 ^ from) m)) m) window ps) n (lt-ltb from present l)
+      ∙ source-merged from (matrixOf (length m) (folded (2 ^ from) m))
+      ∙ ap (λ (k : ℕ). matrixOf k (merged (2 ^ from) (2 ^ from) (matrixOf (length m) (folded (2 ^ from) m)) set)) (length-matrix (length m) (folded (2 ^ from) m))
+      ∙ merge-folded (2 ^ from) (2 ^ from) m set
+      ∙ ap (λ (k : ℕ). matrixOf (length m) (mergedAt (2 ^ k) m (2 ^ from) set)) (sym n))
+      (λ (l : present ≤ from).
+      let n : min present from ≡ present = min-eq-left l in
+      ap₂ (λ (k : ℕ) (b : Bool). sourceMerged k (hasWindow (2 ^ from) c) o (choose b (matrixOf (length m) (folded (2 ^ from) m)) m) window ps) n (le-ltb from present l)
+      ∙ source-merged present m
+      ∙ merge-unfolded (2 ^ present) (2 ^ from) m set zeros
+      ∙ ap (λ (k : ℕ). matrixOf (length m) (mergedAt (2 ^ k) m (2 ^ from) set)) (sym n)) (lt-or-le from present)
+
+-- a lent window is not longer than its k
+pub window-short : (n k : ℕ) (b : Bool) → n ≡ choose b k 0 → k ≤ 67108864 → n ≤ 67108864
+window-short n k true e h = omega arith
+window-short n k false e h = omega arith

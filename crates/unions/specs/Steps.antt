@@ -1,0 +1,103 @@
+-- How private contracts say it: what is judged so far, and work half done. Nothing here has to be believed. Assumes nothing.
+use mathlib.Core.Path.{_≡_}
+use Prim.Native.Nat.{ℕ, _*_, _/_, _%_, _^_, _≤_}
+use mathlib.Core.Bool.{Bool, true, not, _&&_, _||_}
+use mathlib.Core.List.{List, [], _∷_}
+use lib.Count.{trailingZeros}
+use lib.Dec.{eqb, ltb}
+use lib.ListN.{length, getD}
+use Rattle.laws.specs.Below.{anyBelow, everyBelow}
+use Rattle.laws.specs.Choose.{choose}
+use Rattle.refusals.specs.Outcome.{Outcome, accepted, refused}
+use Rattle.refusals.specs.Told.{told}
+use Rattle.numbers.specs.Calls.{outside}
+use Rattle.numbers.specs.Numbers.{flavorAt, offsetAt}
+use Rattle.numbers.specs.Told.{flavorNumber}
+use Rattle.pair_lists.specs.Lists.{pairsJudged}
+use Rattle.matrices.specs.Calls.{wrongRows, offsetIn, windowIn, listed}
+use Rattle.matrices.specs.Matrix.{at, matrixOf, coupons, reserved}
+use Rattle.matrices.specs.Parts.{surprisePairs, firstColumn}
+use Rattle.matrices.specs.Shapes.{folded, merged}
+use Rattle.matrices.specs.Source.{expanded, hasWindow, held}
+use Rattle.unions.specs.declared.planning.Plan.{Plan}
+use Rattle.unions.specs.declared.planning.Plan.the-variants as plan
+use Rattle.unions.specs.declared.planning.Shape.{Shape}
+use Rattle.unions.specs.declared.splitting.Surprises.{Surprises}
+
+-- m, and the first n pairs of a list, their rows taken mod k
+abbrev pub pairsSet : ℕ → List ℕ → List ℕ → ℕ → ℕ → ℕ → Bool
+pairsSet k m ps n r c = at m r c || anyBelow n (λ i. eqb (getD ps i 0 / 64 % k) r && eqb c (getD ps i 0 % 64))
+
+-- m, and a source, its rows taken mod 2^lg: row by row if it has a window, else pair by pair
+abbrev pub sourceMerged : ℕ → Bool → ℕ → List ℕ → List ℕ → List ℕ → List ℕ
+sourceMerged lg wide o m window ps =
+    choose wide (matrixOf (length m) (merged (2 ^ lg) (length window) m (expanded o window ps))) (matrixOf (length m) (pairsSet (2 ^ lg) m ps (length ps)))
+
+-- m, folded to 2^from rows where that is less than 2^present
+abbrev pub lowered : ℕ → ℕ → List ℕ → List ℕ
+lowered present from m = choose (ltb from present) (matrixOf (length m) (folded (2 ^ from) m)) m
+
+-- 1, and 17 where the coupons exceed 64k
+unfoldable pub shapeJudged : ℕ → ℕ → Outcome
+shapeJudged lg c = choose (outside lg) (refused 1 0) (choose (ltb (64 * 2 ^ lg) c) (refused 17 0) (accepted []))
+
+-- 1, 17 where the coupons exceed 64k, 2: a matrix of so many words at lg, a window of so many bytes at the source's lg
+unfoldable pub lentJudged : ℕ → ℕ → ℕ → ℕ → ℕ → Outcome
+lentJudged lg words from c bytes =
+    choose (outside from || outside lg) (refused 1 0)
+    (choose (ltb (64 * 2 ^ from) c) (refused 17 0)
+    (choose (not (eqb words (2 ^ lg)) || not (eqb bytes (choose (hasWindow (2 ^ from) c) (2 ^ from) 0))) (refused 2 0) (accepted [])))
+
+-- the rows from k on are zero
+abbrev pub zerosFrom : ℕ → List ℕ → Bool
+zerosFrom k m = everyBelow (length m) (λ r. ltb r k || eqb (getD m r 0) 0)
+
+-- the shape of a source with so many coupons
+pub record ShapeOf (lg c : ℕ) (s : Shape) : Type 0 where
+  pub low : 4 ≤ lg
+  pub high : lg ≤ 26
+  pub most : c ≤ 64 * 2 ^ lg
+  pub wide : s .wide ≡ hasWindow (2 ^ lg) c
+  pub flavor : s .flavor ≡ flavorAt (2 ^ lg) c
+  pub offset : s .offset ≡ offsetAt (2 ^ lg) c
+  pub small : s .offset ≤ 61
+
+-- a plan is the refusal of the judgement, or the shape where that accepts
+abbrev pub PlannedBy : Outcome → ℕ → ℕ → Plan → Type 0
+PlannedBy o lg c (plan.Take s) = (o ≡ accepted []) × ShapeOf lg c s
+PlannedBy o lg c (plan.Refused why) = told why ≡ o
+
+-- a source with a window, whose pairs are judged
+pub record WideSource (lg c o : ℕ) (window ps : List ℕ) : Type 0 where
+  pub low : 4 ≤ lg
+  pub high : lg ≤ 26
+  pub most : c ≤ 64 * 2 ^ lg
+  pub wide : hasWindow (2 ^ lg) c ≡ true
+  pub offset : o ≡ offsetAt (2 ^ lg) c
+  pub small : o ≤ 61
+  pub long : length window ≡ 2 ^ lg
+  pub pairs : pairsJudged (2 ^ lg) ps ≡ accepted []
+
+-- the late 10, then 17
+unfoldable pub heldJudged : ℕ → ℕ → List ℕ → List ℕ → Outcome
+heldJudged lg c window ps =
+    choose (reserved lg (matrixOf (2 ^ lg) (held (2 ^ lg) c window ps))) (refused 10 67108863)
+    (choose (not (eqb (coupons (matrixOf (2 ^ lg) (held (2 ^ lg) c window ps))) c)) (refused 17 0) (accepted []))
+
+-- all surprise words of a matrix ORed, and how many surprises there are
+pub record SurpriseSum (wide : Bool) (o : ℕ) (m : List ℕ) (s : Surprises) : Type 0 where
+  pub first : trailingZeros 64 (s .ored) ≡ firstColumn wide o m
+  pub count : s .count ≡ length (surprisePairs wide o m)
+
+-- 5, or what a split says
+unfoldable pub roomJudged : ℕ → List ℕ → ℕ → Outcome
+roomJudged lg m room =
+    choose (ltb room (length (listed lg m))) (refused 5 0)
+    (accepted
+    (coupons m ∷ flavorNumber (flavorAt (2 ^ lg) (coupons m)) ∷ offsetIn lg m ∷ firstColumn (windowIn lg m) (offsetIn lg m) m ∷ length (listed lg m) ∷ []))
+
+-- 1, 2, 10, 5: for a window of so many bytes and a list of so much room
+unfoldable pub splitJudged : ℕ → List ℕ → ℕ → ℕ → Outcome
+splitJudged lg m bytes room =
+    choose (outside lg) (refused 1 0)
+    (choose (wrongRows lg m || not (eqb bytes (2 ^ lg))) (refused 2 0) (choose (reserved lg m) (refused 10 67108863) (roomJudged lg m room)))
