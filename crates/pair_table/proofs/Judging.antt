@@ -35,7 +35,7 @@ pub passed-by : (b : Bool) (more : Outcome) (number place : ℕ) → choose b (r
 passed-by true more number place e = let z : _≡_ {A = ℕ} 0 1 = cc in absurd (omega arith)
 passed-by false more number place e = (refl, e)
 
-neither : (a b : Bool) → (a || b) ≡ false → (a ≡ false) × (b ≡ false)
+pub neither : (a b : Bool) → (a || b) ≡ false → (a ≡ false) × (b ≡ false)
 neither true b e = let z : _≡_ {A = ℕ} 0 1 = cc in absurd (omega arith)
 neither false b e = (refl, e)
 

@@ -4,3 +4,4 @@ pub mod Rebuilding
 pub mod Called
 pub mod Inserting
 pub mod Deleting
+pub mod StoringLists

@@ -74,7 +74,7 @@ pub fn rebuild(region: &mut [u32], spare: &mut [u32], n: usize, lg: u8, to: u8, 
 }
 
 // Whether so many items go without growth.
-fn fit(items: u32, lg: u8) -> bool
+pub fn fit(items: u32, lg: u8) -> bool
     requires { ⌜ lg ≤ 26 ⌝ }
     ensures { λ r. ⌜ r ≡ fits items lg ⌝ }
 {

@@ -2,9 +2,10 @@
 // After src/cpc/pair_table.rs and src/cpc/union.rs of the Rust crate datasketches 0.5.0 (Apache-2.0); changed: a record by value beside lent regions for a struct that holds a `Vec`,
 // `rebuild` takes the spare, and each call is total and refuses by number.
 ghost use mathlib.Core.Path.{_≡_};
-ghost use Rattle.tables.specs.Calls.{tableJudged, newOf, blankIf, insertOf, insertRegion, deleteOf, deleteRegion, spareAfter, clearOf};
+ghost use Rattle.tables.specs.Calls.{tableJudged, newOf, blankIf, buildOf, buildRegion, buildSpare, insertOf, insertRegion, deleteOf, deleteRegion, spareAfter, clearOf};
 ghost use Rattle.pair_table.specs.Told.{toldTable, toldChange, toldVerdict};
 
+mod building;
 mod changing;
 mod lawfulness;
 mod slots;
@@ -65,6 +66,18 @@ pub fn new(lg: u8, valid: u8, region: &mut [u32], spare: &mut [u32]) -> TableAns
                 items: 0,
             })
         }
+    }
+}
+
+// A table of the items of a list, in the fewest slots that they may fill.
+pub fn build(valid: u8, list: &[u32], region: &mut [u32], spare: &mut [u32]) -> TableAnswer
+    ensures { λ r. ⌜ (toldTable r ≡ buildOf (now (region .entry)) (now (spare .entry)) valid (now (list .entry)))
+        × (now (region .exit) ≡ buildRegion (now (region .entry)) (now (spare .entry)) valid (now (list .entry)))
+        × (now (spare .exit) ≡ buildSpare (now (region .entry)) (now (spare .entry)) valid (now (list .entry))) ⌝ }
+{
+    match building::judge_lent(valid, list, region, spare) {
+        Verdict::Refused(why) => TableAnswer::Refused(why),
+        Verdict::Passes => building::build_judged(valid, list, region, spare),
     }
 }
 

@@ -1,13 +1,13 @@
 -- What the tests of Slots say, as the shapes that laws speak of; and the other way round. Assumes nothing.
-use mathlib.Core.Path.{_≡_, refl, sym, ap, _∙_, subst}
-use mathlib.Core.Bool.{Bool, true, false, not, _&&_, _||_, true≢false, false≢true}
-use mathlib.Core.Logic.{_⊎_, inl, inr, ⊎-elim}
+use mathlib.Core.Path.{_≡_, refl, sym, ap, _∙_}
+use mathlib.Core.Bool.{Bool, true, false, not, _&&_, _||_, true≢false}
+use mathlib.Core.Logic.{⊎-elim}
 use mathlib.Core.List.{List}
-use Prim.Native.Nat.{ℕ, zero, suc, _+_, _*_, _^_, _≤_, _<_}
+use Prim.Native.Nat.{ℕ, _*_, _^_, _≤_, _<_}
 use native.Mathlib.Omega.{arith}
 use lib.ListN.{length, getD}
 use lib.Dec.{eqb, leb, ltb}
-use borrow.Author.Tests.{eq-eqb, ne-eqb, eqb-true, eqb-false, lt-ltb, le-ltb, ltb-true, ltb-false, le-leb, leb-true, not-true, not-false}
+use borrow.Author.Tests.{eq-eqb, ne-eqb, eqb-true, lt-ltb, ltb-true, le-leb, leb-true, not-true, not-false}
 use Rattle.laws.specs.Below.{everyBelow}
 use Rattle.laws.proofs.Below.{every-at, every-of, some-false}
 use Rattle.laws.proofs.Truths.{true-or-false, never-true, and-left, and-right, and-both, or-true, or-left, or-right}
@@ -31,6 +31,7 @@ pub record Sized (lg v : ℕ) : Type 0 where
   pub bits-least : lg < v
   pub bits-most : v ≤ 32
 
+-- the test of the sizes, as a record
 pub sized-is : (lg v : ℕ) → sized lg v ≡ true → Sized lg v
 unfolding sized
 sized-is lg v e =
@@ -43,6 +44,7 @@ sized-is lg v e =
       bits-most = leb-true v 32 (and-right (ltb lg v) (leb v 32) b);
     }
 
+-- and back
 pub is-sized : (lg v : ℕ) → Sized lg v → sized lg v ≡ true
 unfolding sized
 is-sized lg v w =
@@ -59,6 +61,7 @@ placed-is s lg v p e full = ⊎-elim
     })
     (or-true (eqb (getD s p 0) empty) (ltb (getD s p 0) (2 ^ v) && eqb (spot s lg v (getD s p 0)) p) e)
 
+-- and back
 pub is-placed : (s : List ℕ) (lg v p : ℕ) → ((getD s p 0 ≡ empty → ⊥) → Placed s lg v p) → placedAt s lg v p ≡ true
 unfolding placedAt
 is-placed s lg v p f = ⊎-elim
@@ -67,9 +70,11 @@ is-placed s lg v p f = ⊎-elim
     (and-both (lt-ltb (getD s p 0) (2 ^ v) (f d .small)) (eq-eqb (spot s lg v (getD s p 0)) p (f d .found))))
     (same-or-not (getD s p 0) empty)
 
+-- every slot of the first n that holds an item is placed
 pub all-placed : (s : List ℕ) (lg v n : ℕ) → everyBelow n (placedAt s lg v) ≡ true → AllPlaced s lg v n
 all-placed s lg v n e p h full = placed-is s lg v p (every-at n (placedAt s lg v) e p h) full
 
+-- and back
 pub placed-all : (s : List ℕ) (lg v n : ℕ) → AllPlaced s lg v n → everyBelow n (placedAt s lg v) ≡ true
 placed-all s lg v n f = every-of n (placedAt s lg v) (λ p h. is-placed s lg v p (f p h))
 
@@ -81,6 +86,7 @@ beyond-is s n e p h l = ⊎-elim
     (λ (t : eqb (getD s p 0) empty ≡ true). eqb-true (getD s p 0) empty t)
     (or-true (ltb p n) (eqb (getD s p 0) empty) (every-at (length s) (λ p. ltb p n || eqb (getD s p 0) empty) e p l))
 
+-- and back
 pub is-beyond : (s : List ℕ) (n : ℕ) → EmptyFrom s n (length s) → emptyBeyond s n ≡ true
 unfolding emptyBeyond
 is-beyond s n f = every-of (length s) (λ p. ltb p n || eqb (getD s p 0) empty) (λ p l. ⊎-elim
@@ -113,6 +119,7 @@ lawful-is s lg v c e =
       beyond = beyond-is s (2 ^ lg) (and-right (leb (4 * c) (3 * 2 ^ lg)) (emptyBeyond s (2 ^ lg)) e₄);
     }
 
+-- and back
 pub is-lawful : (s : List ℕ) (lg v c : ℕ) → Lawful s lg v c → lawful s lg v c ≡ true
 unfolding lawful
 is-lawful s lg v c l =
@@ -125,12 +132,19 @@ is-lawful s lg v c l =
 pub lawful-by : (s : List ℕ) (lg v c : ℕ) (r : Bool) → Decides (Lawful s lg v c) r → r ≡ lawful s lg v c
 lawful-by s lg v c r d = decided r (lawful s lg v c) d (lawful-is s lg v c) (is-lawful s lg v c)
 
+-- the same for the slots beyond
 pub beyond-by : (s : List ℕ) (n : ℕ) (r : Bool) → Decides (EmptyFrom s n (length s)) r → r ≡ emptyBeyond s n
 beyond-by s n r d = decided r (emptyBeyond s n) d (beyond-is s n) (is-beyond s n)
 
+-- for the placed slots
 pub placed-by : (s : List ℕ) (lg v n : ℕ) (r : Bool) → Decides (AllPlaced s lg v n) r → r ≡ everyBelow n (placedAt s lg v)
 placed-by s lg v n r d = decided r (everyBelow n (placedAt s lg v)) d (all-placed s lg v n) (placed-all s lg v n)
 
+-- for one slot
+pub slot-by : (s : List ℕ) (lg v p : ℕ) (r : Bool) → Decides ((getD s p 0 ≡ empty → ⊥) → Placed s lg v p) r → r ≡ placedAt s lg v p
+slot-by s lg v p r d = decided r (placedAt s lg v p) d (placed-is s lg v p) (is-placed s lg v p)
+
+-- and for the sizes
 pub sized-by : (lg v : ℕ) (r : Bool) → Decides (Sized lg v) r → r ≡ sized lg v
 sized-by lg v r d = decided r (sized lg v) d (sized-is lg v) (is-sized lg v)
 
@@ -141,6 +155,7 @@ holds-at s n x e =
     let r = some-false n (λ p. not (eqb (getD s p 0) x)) (not-true (everyBelow n (λ p. not (eqb (getD s p 0) x))) e) in
     (r .0, r .1, eqb-true (getD s (r .0) 0) x (not-false (eqb (getD s (r .0) 0) x) (r .2)))
 
+-- a slot below n that holds x: the test says so
 pub at-holds : (s : List ℕ) (n x p : ℕ) → p < n → getD s p 0 ≡ x → holds s n x ≡ true
 unfolding holds
 at-holds s n x p h e = ⊎-elim
@@ -149,15 +164,19 @@ at-holds s n x p h e = ⊎-elim
     (λ (t : everyBelow n (λ p. not (eqb (getD s p 0) x)) ≡ false). ap not t)
     (true-or-false (everyBelow n (λ p. not (eqb (getD s p 0) x))))
 
+-- an x that is not the empty slot's number: the test says that it is a member
 pub holds-member : (s : List ℕ) (n x : ℕ) → (x ≡ empty → ⊥) → holds s n x ≡ true → Member s n x
 holds-member s n x d e = let r = holds-at s n x e in (r .0, r .1, r .2, d)
 
+-- and back
 pub member-holds : (s : List ℕ) (n x : ℕ) → Member s n x → holds s n x ≡ true
 member-holds s n x m = at-holds s n x (m .0) (m .1) (m .2)
 
+-- what is no member is not held
 pub holds-not : (s : List ℕ) (n x : ℕ) → (Member s n x → ⊥) → (x ≡ empty → ⊥) → holds s n x ≡ false
 holds-not s n x f d = never-true (holds s n x) (λ e. f (holds-member s n x d e))
 
+-- what is not held is no member
 pub not-holds : (s : List ℕ) (n x : ℕ) → holds s n x ≡ false → Member s n x → ⊥
 not-holds s n x e m = true≢false (sym (member-holds s n x m) ∙ e)
 

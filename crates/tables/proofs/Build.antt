@@ -1,9 +1,9 @@
 -- Building a table from a list: it takes every item exactly if none stands twice, and stops at the first that stands earlier in the list. Assumes nothing.
 use mathlib.Core.Path.{_≡_, refl, sym, ap, _∙_, subst}
 use mathlib.Core.Bool.{Bool, true, false, true≢false}
-use mathlib.Core.Logic.{_⊎_, inl, inr, ⊎-elim}
-use mathlib.Core.List.{List, [], _∷_}
-use Prim.Native.Nat.{ℕ, zero, suc, _+_, _-_, _*_, _^_, _≤_, _<_}
+use mathlib.Core.Logic.{inl, inr, ⊎-elim}
+use mathlib.Core.List.{List, []}
+use Prim.Native.Nat.{ℕ, zero, suc, _+_, _*_, _^_, _≤_, _<_}
 use native.Mathlib.Omega.{arith}
 use native.Mathlib.Nat.{eq-or-lt-of-le}
 use native.Mathlib.Numerals.{add-one}
@@ -12,13 +12,13 @@ use lib.Dec.{eqb}
 use borrow.Author.Tests.{eq-eqb, ne-eqb}
 use Rattle.laws.specs.Choose.{choose}
 use Rattle.laws.proofs.Truths.{never-true}
-use Rattle.refusals.specs.Outcome.{Outcome, accepted, refused}
+use Rattle.refusals.specs.Outcome.{accepted, refused}
 use Rattle.tables.specs.Slots.{empty, spot, holds}
 use Rattle.tables.specs.Changes.{place, fill}
 use Rattle.tables.specs.Calls.{twiceJudged}
 use Rattle.tables.specs.Shapes.{Lawful, Member, Built}
 use Rattle.tables.proofs.Laws.{at-or-below}
-use Rattle.tables.proofs.Paths.{spot-lt, at-end, only-there, place-lawful, place-member, member-place}
+use Rattle.tables.proofs.Paths.{spot-lt, at-end, place-lawful, place-member, member-place}
 use Rattle.tables.proofs.Refilled.{fill-one, none-in}
 use Rattle.tables.proofs.Items.{Fine, never}
 use Rattle.tables.proofs.Bridges.{holds-at, at-holds}
@@ -115,12 +115,15 @@ module _ (o t : List ℕ) (lg v : ℕ) (base : Lawful t lg v 0) (fine : (k : ℕ
     earlier : (k : ℕ) → 0 ≤ k → k < r → holds o k (getD o k 0) ≡ false
     earlier k z l = fresh-holds k (omega (arith, b .within)) (λ j m. b .fresh j (omega arith)) (b .fresh k l)
 
+    -- all went in: none stands twice
     pub built-whole : r ≡ length o → twiceJudged o (length o) 0 ≡ accepted []
     built-whole e = twice-none o (length o) 0 (λ k z l. earlier k z (omega arith))
 
+    -- r did, and not all: r is the first that stands earlier
     pub built-stopped : r < length o → twiceJudged o (length o) 0 ≡ refused 11 r
     built-stopped l = twice-first o (length o) 0 r (omega arith) (omega arith) earlier (stored-holds r l (b .fresh) (rw (← (b .now-is)) (b .stopped l)))
 
+    -- both in one equation
     pub built-judged : twiceJudged o (length o) 0 ≡ choose (eqb r (length o)) (accepted []) (refused 11 r)
     built-judged = ⊎-elim
         (λ (e : r ≡ length o). rw (eq-eqb r (length o) e) (built-whole e))
@@ -131,6 +134,7 @@ module _ (o t : List ℕ) (lg v : ℕ) (base : Lawful t lg v 0) (fine : (k : ℕ
     pub whole-built : twiceJudged o (length o) 0 ≡ accepted [] → r ≡ length o
     whole-built e = ⊎-elim (λ z. z) (λ (l : r < length o). absurd (never (sym (built-stopped l) ∙ e))) (eq-or-lt-of-le (b .within))
 
+    -- the refusal says how many went in
     pub stopped-built : (k : ℕ) → twiceJudged o (length o) 0 ≡ refused 11 k → r ≡ k
     stopped-built k e = ⊎-elim
         (λ (z : r ≡ length o). absurd (never (sym e ∙ built-whole z)))
@@ -157,11 +161,14 @@ module _ (o t : List ℕ) (lg v : ℕ) (base : Lawful t lg v 0) (fine : (k : ℕ
     whole : Upto (fill o (length o) t lg v) (length o)
     whole = upto (length o) (omega arith) (all-fresh (length o) (omega arith))
 
+    -- it is lawful, with as many items as the list
     pub build-lawful : Lawful (fill o (length o) t lg v) lg v (length o)
     build-lawful = whole .lawful
 
+    -- what it holds is listed
     pub build-listed : (y : ℕ) → Member (fill o (length o) t lg v) (2 ^ lg) y → (p : ℕ) × (p < length o) × (getD o p 0 ≡ y)
     build-listed = whole .listed
 
+    -- what is listed it holds
     pub build-stored : (p : ℕ) → p < length o → Member (fill o (length o) t lg v) (2 ^ lg) (getD o p 0)
     build-stored p h = whole .stored (getD o p 0) (fine p h .full) (p, h, refl)

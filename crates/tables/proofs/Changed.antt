@@ -1,16 +1,15 @@
 -- What an insert and a delete leave: a lawful table of the set with x, or without it. Assumes nothing.
-use mathlib.Core.Path.{_≡_, refl, sym, ap, _∙_, subst}
+use mathlib.Core.Path.{_≡_, refl, _∙_}
 use mathlib.Core.Bool.{Bool, true, false}
-use mathlib.Core.Logic.{_⊎_, inl, inr, ⊎-elim}
+use mathlib.Core.Logic.{_⊎_, inl, inr}
 use mathlib.Core.List.{List}
 use Prim.Native.Nat.{ℕ, zero, suc, _+_, _-_, _*_, _^_, _≤_, _<_}
-use native.Mathlib.Omega.{arith}
 use lib.ListN.{length, getD, set, length-set}
-use lib.Dec.{eqb, leb}
-use borrow.Author.Tests.{leb-true, leb-false}
+use lib.Dec.{eqb}
+use borrow.Author.Tests.{leb-true}
 use Rattle.laws.specs.Choose.{choose}
 use Rattle.tables.specs.Slots.{empty, spot, next}
-use Rattle.tables.specs.Changes.{place, reseat, remove, rebuilt, fits, inserted, halvedLg, halved, deleted}
+use Rattle.tables.specs.Changes.{place, reseat, remove, rebuilt, fits, inserted, halvedLg, deleted}
 use Rattle.tables.specs.Shapes.{Lawful, Member, Stored, Grown, Removed}
 use Rattle.tables.proofs.Paths.{spot-lt, only-there, length-place, stored-new}
 use Rattle.tables.proofs.Delete.{removed-some}
@@ -38,6 +37,7 @@ module _ (s : List ℕ) (lg v c x : ℕ) (l : Lawful s lg v c) (w : Fine v x) (n
   not-there : getD s (spot s lg v x) 0 ≡ x → ⊥
   not-there e = new (spot s lg v x, qn, e, w .full)
 
+  -- the region keeps its length
   pub length-inserted : length (inserted s lg v c x) ≡ length s
   unfolding inserted
   length-inserted = go (fits (c + 1) lg)
@@ -56,9 +56,11 @@ module _ (s : List ℕ) (lg v c x : ℕ) (l : Lawful s lg v c) (w : Fine v x) (n
     unfolding inserted
     is-place = rw room
 
+    -- the table is lawful, at the same lg
     pub kept-lawful : Lawful (inserted s lg v c x) lg v (c + 1)
     kept-lawful = rw is-place (stored .lawful refl)
 
+    -- and stands for the set with x
     pub kept-set : Added s (2 ^ lg) (inserted s lg v c x) (2 ^ lg) x
     kept-set = rw is-place (record { has = stored .held-on refl x (inr refl); keeps = λ y m. stored .held-on refl y (inl m); only = stored .holds refl })
 
@@ -72,9 +74,11 @@ module _ (s : List ℕ) (lg v c x : ℕ) (l : Lawful s lg v c) (w : Fine v x) (n
     unfolding inserted
     is-rebuilt = rw room
 
+    -- the table is lawful, at one lg more
     pub grown-lawful : Lawful (inserted s lg v c x) (lg + 1) v (c + 1)
     grown-lawful = rw is-rebuilt (grown .lawful refl)
 
+    -- and stands for the set with x
     pub grown-set : Added s (2 ^ lg) (inserted s lg v c x) (2 ^ (lg + 1)) x
     grown-set = rw is-rebuilt (record { has = grown .held-on refl x (inr refl); keeps = λ y m. grown .held-on refl y (inl m); only = grown .holds refl })
 
@@ -103,9 +107,11 @@ module _ (s : List ℕ) (lg v c x : ℕ) (l : Lawful s lg v c) (w : Fine v x) (h
   unfolding deleted
   half = halved-is lg (remove s lg v x) lg v (c - 1) (removed .lawful refl)
 
+  -- the table is lawful, at the lg that halving ends at
   pub deleted-lawful : Lawful (deleted s lg v c x) (halvedLg lg lg (c - 1)) v (c - 1)
   deleted-lawful = half .lawful
 
+  -- and stands for the set without x
   pub deleted-set : Taken s (2 ^ lg) (deleted s lg v c x) (2 ^ halvedLg lg lg (c - 1)) x
   deleted-set = record {
     gone = λ m. removed .gone refl (half .same .back x m);
@@ -113,5 +119,6 @@ module _ (s : List ℕ) (lg v c x : ℕ) (l : Lawful s lg v c) (w : Fine v x) (h
     only = λ y m. removed .no-others refl y (half .same .back y m);
   }
 
+  -- the region keeps its length
   pub length-deleted : length (deleted s lg v c x) ≡ length s
   length-deleted = half .long ∙ length-remove s lg v x

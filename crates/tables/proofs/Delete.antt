@@ -1,36 +1,38 @@
 -- Deleting an item: its slot is emptied, and each item up to the next empty slot is taken and stored again. Assumes nothing.
 use mathlib.Core.Path.{_≡_, refl, sym, ap, _∙_, subst}
-use mathlib.Core.Bool.{Bool, true, false, true≢false, false≢true}
+use mathlib.Core.Bool.{true, false, true≢false, false≢true}
 use mathlib.Core.Logic.{_⊎_, inl, inr, ⊎-elim}
 use mathlib.Core.List.{List}
-use Prim.Native.Nat.{ℕ, zero, suc, _+_, _-_, _*_, _^_, _≤_, _<_}
+use Prim.Native.Nat.{ℕ, zero, suc, _+_, _-_, _^_, _≤_, _<_}
 use native.Mathlib.Omega.{arith}
-use native.Mathlib.Nat.{le-trans, eq-or-lt-of-le, eq-zero-or-pos, lt-of-lt-of-le as lt-le}
-use native.Mathlib.Numerals.{add-one}
+use native.Mathlib.Nat.{eq-or-lt-of-le, lt-of-lt-of-le as lt-le}
 use lib.ListN.{length, getD, set, length-set}
 use lib.Seq.{getD-set-same, getD-set-other}
 use lib.Dec.{eqb}
 use lib.Pow.{pow-pos}
 use borrow.Author.Tests.{eq-eqb, ne-eqb}
 use Rattle.laws.specs.Choose.{choose}
-use Rattle.tables.specs.Slots.{empty, home, next, stops, probe, spot, held, total, items}
+use Rattle.tables.specs.Slots.{empty, home, next, stops, spot, held, total}
 use Rattle.tables.specs.Changes.{place, reseat, remove}
-use Rattle.tables.specs.Shapes.{steps, Placed, AllPlaced, EmptyFrom, Lawful, Member, AllSmall, Removed}
+use Rattle.tables.specs.Shapes.{steps, AllPlaced, Lawful, Member, AllSmall, Removed}
 use Rattle.tables.proofs.Laws.{stops-same, stops-empty, stops-not, home-lt, held-empty, held-full}
-use Rattle.tables.proofs.Paths.{same-or-not, le-or-lt, steps-add, steps-line, steps-behind, steps-lt, steps-inj, Ends, ends-within, meets, Path-to, path-of, path-spot, path-fill, stops-value, total-set, some-empty, length-place, only-there}
+use Rattle.tables.proofs.Paths.{same-or-not, le-or-lt, steps-add, steps-line, steps-behind, steps-lt, steps-inj, Ends, ends-within, meets, Path-to, path-of, path-spot, path-fill, stops-value, total-set, some-empty, only-there}
 
 -- How often y stands in a region.
 pub one : ℕ → ℕ → ℕ
 one y a = choose (eqb a y) 1 0
 
+-- it stands there
 pub one-same : (y a : ℕ) → a ≡ y → one y a ≡ 1
 unfolding one
 one-same y a e = simp (eq-eqb a y e)
 
+-- it does not
 pub one-other : (y a : ℕ) → (a ≡ y → ⊥) → one y a ≡ 0
 unfolding one
 one-other y a d = simp (ne-eqb a y d)
 
+-- what stands at a slot is counted
 pub tally-at : (y : ℕ) (s : List ℕ) (n p : ℕ) → p < n → getD s p 0 ≡ y → 0 < total (one y) s n
 unfolding total
 tally-at y s zero p l e = absurd (omega arith)
@@ -40,6 +42,7 @@ tally-at y s (suc n) p l e = go (tally-at y s n p) (same-or-not p n)
     go ih (inl z) = omega (arith, one-same y (getD s n 0) (rw z at e))
     go ih (inr d) = ⊎-elim (λ z. absurd (d z)) (λ m. omega (arith, ih m e)) (eq-or-lt-of-le {n = p} {m = n} (omega arith))
 
+-- what is counted stands at a slot
 pub tally-some : (y : ℕ) (s : List ℕ) (n : ℕ) → 0 < total (one y) s n → (p : ℕ) × (p < n) × (getD s p 0 ≡ y)
 unfolding total
 tally-some y s zero l = absurd (omega arith)
@@ -75,16 +78,19 @@ steps-self n i r l p m e = ⊎-elim over under (le-or-lt n (i + r))
         let g : i ≡ i + r - n = e ∙ ap (steps n i) (sym z) ∙ b in
         omega arith
 
+-- two numbers of steps below n lead to two slots
 pub steps-apart : (n i t u : ℕ) → i < n → t < u → u < n → steps n i t ≡ steps n i u → ⊥
 steps-apart n i t u l h m e =
     let z : u ≡ u - t + t = omega arith in
     steps-self n i (u - t) l (omega arith) (omega arith)
     (steps-inj n i (steps n i (u - t)) t l (steps-lt n i (u - t) l) (e ∙ ap (steps n i) z ∙ steps-add n i (u - t) t))
 
+-- one step more
 pub step-on : (n i t : ℕ) → steps n i (t + 1) ≡ next n (steps n i t)
 unfolding steps
 step-on n i t = steps-add n i t 1
 
+-- the first step
 pub step-on′ : (n i : ℕ) → steps n i 1 ≡ next n i
 unfolding steps
 step-on′ n i = refl
@@ -101,6 +107,7 @@ path-off s lg v x p b a w off = record {
   there = w .there;
 }
 
+-- the search for the item at p ends at p
 pub own-path : (s : List ℕ) (lg v c p : ℕ) → Lawful s lg v c → p < 2 ^ lg → (getD s p 0 ≡ empty → ⊥) → Path-to s lg v (getD s p 0) p
 unfolding home
 own-path s lg v c p l h f =
@@ -112,17 +119,20 @@ pub once-placed : (o : List ℕ) (lg v : ℕ) → 2 ^ lg ≤ length o → AllPla
 once-placed o lg v room placed y d = tally-once y o (2 ^ lg) room d (λ p r pn rn pe re.
     sym (rw pe at (placed p pn (λ e. d (sym pe ∙ e)) .found)) ∙ (rw re at (placed r rn (λ e. d (sym re ∙ e)) .found)))
 
+-- so is each item of a lawful table
 pub once-lawful : (o : List ℕ) (lg v c : ℕ) → Lawful o lg v c → (y : ℕ) → (y ≡ empty → ⊥) → total (one y) o (2 ^ lg) ≤ 1
 once-lawful o lg v c l = once-placed o lg v (l .room) (l .placed)
 
 stop-empty : (s : List ℕ) (x p : ℕ) → stops s x p ≡ true → (getD s p 0 ≡ x → ⊥) → getD s p 0 ≡ empty
 stop-empty s x p t d = ⊎-elim (λ e. e) (λ f. absurd (false≢true (sym (stops-not s x p d f) ∙ t))) (same-or-not (getD s p 0) empty)
 
+-- an empty slot ends it
 pub reseat-done : (s : List ℕ) (lg v left p : ℕ) → getD s p 0 ≡ empty → reseat s lg v left p ≡ s
 unfolding reseat
 reseat-done s lg v zero p e = refl
 reseat-done s lg v (suc left) p e = simp (eq-eqb (getD s p 0) empty e)
 
+-- a turn: the item at p is taken and stored again
 pub reseat-go : (s : List ℕ) (lg v left p : ℕ) → 0 < left → (getD s p 0 ≡ empty → ⊥)
     → reseat s lg v left p ≡ reseat (place (set s p empty) lg v (getD s p 0)) lg v (left - 1) (next (2 ^ lg) p)
 unfolding reseat
@@ -140,6 +150,7 @@ module _ (o : List ℕ) (lg v c i m : ℕ) (l : Lawful o lg v c) (iN : i < 2 ^ l
   abbrev pub n : ℕ
   n = 2 ^ lg
 
+  -- the u-th slot after i
   abbrev pub at : ℕ → ℕ
   at u = steps (2 ^ lg) i u
 
@@ -155,6 +166,7 @@ module _ (o : List ℕ) (lg v c i m : ℕ) (l : Lawful o lg v c) (iN : i < 2 ^ l
   abbrev pub Found : List ℕ → ℕ → Type 0
   Found s t = (j : ℕ) → j < n → (getD s j 0 ≡ empty → ⊥) → Apart t j → Path-to s lg v (getD s j 0) j
 
+  -- it is one of the slots
   pub at-lt : (u : ℕ) → at u < n
   at-lt u = steps-lt n i u iN
 
@@ -235,24 +247,30 @@ module _ (o : List ℕ) (lg v c i m : ℕ) (l : Lawful o lg v c) (iN : i < 2 ^ l
     abbrev pub b : ℕ
     b = at t
 
+    -- the item that waits first
     abbrev pub y : ℕ
     y = getD s (at t) 0
 
+    -- the region without it
     abbrev pub s₂ : List ℕ
     s₂ = set s (at t) empty
 
     abbrev q : ℕ
     q = spot (set s (at t) empty) lg v (getD s (at t) 0)
 
+    -- the region is long enough
     pub room : n ≤ length s
     room = rw (a .long) (l .room)
 
+    -- its slot is in the region
     pub bL : b < length s
     bL = lt-le (at-lt t) room
 
+    -- it stands where it stood
     pub was : y ≡ getD o b 0
     was = a .ahead t (omega arith) (omega arith)
 
+    -- it is an item
     pub full-y : y ≡ empty → ⊥
     full-y e = run t tm (sym was ∙ e)
 
@@ -266,6 +284,7 @@ module _ (o : List ℕ) (lg v c i m : ℕ) (l : Lawful o lg v c) (iN : i < 2 ^ l
     small-y : y < 2 ^ v
     small-y = a .small b (at-lt t) full-y
 
+    -- its home is a slot
     pub home-y : home lg v y < n
     unfolding home
     home-y = home-lt lg v y (omega (arith, l .bits-least)) small-y
@@ -295,6 +314,7 @@ module _ (o : List ℕ) (lg v c i m : ℕ) (l : Lawful o lg v c) (iN : i < 2 ^ l
             (λ z. true≢false (sym (stops-empty s₂ y _ (rw (w .there) emptied)) ∙ path₂ .ends .clear (w .count) z))
             (eq-or-lt-of-le h)
 
+    -- the region with it stored again
     abbrev pub s₃ : List ℕ
     s₃ = set (set s (at t) empty) (spot (set s (at t) empty) lg v (getD s (at t) 0)) (getD s (at t) 0)
 
@@ -340,6 +360,7 @@ module _ (o : List ℕ) (lg v c i m : ℕ) (l : Lawful o lg v c) (iN : i < 2 ^ l
             (λ f. let g : getD s₃ j 0 ≡ getD s j 0 = other j d ∙ getD-set-other s b j empty 0 f in rw g (a .small j jn (λ e. full (g ∙ e))))
             (same-or-not j b)
 
+    -- one turn
     pub again : Mid s₃ (t + 1)
     again = record {
       long = length-set s₂ q y ∙ length-set s b empty ∙ a .long;
@@ -420,6 +441,7 @@ pub record Cluster (o : List ℕ) (lg i : ℕ) : Type 0 where
   pub run : (u : ℕ) → u < m → getD o (steps (2 ^ lg) i u) 0 ≡ empty → ⊥
   pub gap : getD o (steps (2 ^ lg) i m) 0 ≡ empty
 
+-- there is one: a lawful table has an empty slot
 pub cluster : (o : List ℕ) (lg v c i : ℕ) → Lawful o lg v c → i < 2 ^ lg → (getD o i 0 ≡ empty → ⊥) → Cluster o lg i
 unfolding steps
 cluster o lg v c i l iN full =
@@ -446,6 +468,7 @@ pub record Gone (o r : List ℕ) (lg v c i : ℕ) : Type 0 where
   pub was-there : (y : ℕ) → Member r (2 ^ lg) y → Member o (2 ^ lg) y
   pub not-it : Member r (2 ^ lg) (getD o i 0) → ⊥
 
+-- taking and storing again leaves the others
 pub gone-at : (o : List ℕ) (lg v c i : ℕ) → Lawful o lg v c → i < 2 ^ lg → (getD o i 0 ≡ empty → ⊥)
     → Gone o (reseat (set o i empty) lg v (2 ^ lg) (next (2 ^ lg) i)) lg v c i
 gone-at o lg v c i l iN full =
@@ -457,12 +480,14 @@ gone-at o lg v c i l iN full =
       not-it = not-it o lg v c i (k .m) l iN (k .short) (k .some) (k .run) (k .gap);
     }
 
+-- a store of a small item leaves all items small
 pub small-set : (s : List ℕ) (n v q a : ℕ) → q < length s → AllSmall s n v → ((a ≡ empty → ⊥) → a < 2 ^ v) → AllSmall (set s q a) n v
 small-set s n v q a l f g j jn full = ⊎-elim
     (λ (e : j ≡ q). let h : getD (set s q a) j 0 ≡ a = rw e (getD-set-same s q a 0 l) in rw h (g (λ z. full (h ∙ z))))
     (λ d. let h = getD-set-other s q j a 0 d in rw h (f j jn (λ z. full (h ∙ z))))
     (same-or-not j q)
 
+-- no turn is left
 pub reseat-out : (s : List ℕ) (lg v left p : ℕ) → left ≤ 0 → reseat s lg v left p ≡ s
 unfolding reseat
 reseat-out s lg v zero p h = refl
@@ -481,6 +506,7 @@ removed-none s lg v c x q l xs xe z d = record {
   no-others = λ r. absurd (false≢true r);
 }
 
+-- it was there, and went
 pub removed-some : (s : List ℕ) (lg v c x q : ℕ) → Lawful s lg v c → (x ≡ empty → ⊥) → q ≡ spot s lg v x → q < 2 ^ lg → getD s q 0 ≡ x
     → Removed s (reseat (set s q empty) lg v (2 ^ lg) (next (2 ^ lg) q)) lg v c x true
 unfolding remove

@@ -1,18 +1,15 @@
 -- Laws of extraction. Assumes nothing.
-use mathlib.Core.Path.{_≡_, refl, sym, ap, _∙_, subst}
-use mathlib.Core.Bool.{Bool, true, false, not}
-use mathlib.Core.Logic.{_⊎_, inl, inr, ⊎-elim}
+use mathlib.Core.Path.{_≡_, refl, sym, ap, _∙_}
+use mathlib.Core.Logic.{⊎-elim}
 use mathlib.Core.List.{List, [], _∷_, _++_, append-assoc, append-nil}
-use Prim.Native.Nat.{ℕ, zero, suc, _+_, _-_, _*_, _^_, _≤_, _<_}
+use Prim.Native.Nat.{ℕ, suc, _+_, _-_, _^_, _≤_, _<_}
 use native.Mathlib.Omega.{arith}
 use native.Mathlib.Numerals.{add-one}
 use lib.ListN.{length, getD, set, take, drop, length-set, length-append, take-append-drop}
 use lib.Seq.{getD-set-same, drop-cons, drop-set-lt, take-set-le, take-suc-set, drop-drop}
 use borrow.Author.Tests.{le-leb, lt-leb, eq-eqb, ne-eqb}
-use Rattle.laws.specs.Choose.{choose}
 use Rattle.tables.specs.Slots.{empty, held, total, items}
-use Rattle.tables.specs.Listings.{high}
-use Rattle.tables.specs.Shapes.{snoc, lows, highs, Front, Split, rest, Rest, Extracted}
+use Rattle.tables.specs.Shapes.{lows, highs, Split, rest, Rest, Extracted}
 use Rattle.tables.proofs.Laws.{items-full, items-empty, at-or-below}
 use Rattle.tables.proofs.Refilled.{total-mono}
 
@@ -60,9 +57,11 @@ module _ (s o u : List ℕ) (n v c i l r : ℕ) (a : Part s o u n v c i l r) (co
   some : items s i + 1 ≤ c
   some = omega (arith, one-more, total-mono held s (i + 1) n (omega arith), count)
 
+  -- there is room between the two parts
   pub apart : l < r
   apart = omega (arith, some, a .meet)
 
+  -- an item with the bit clear goes to the front
   pub part-low : x < 2 ^ (v - 1) → r ≤ length o → Part s o (set u l x) n v c (i + 1) (l + 1) r
   part-low small rl = record {
     within = omega arith;
@@ -74,6 +73,7 @@ module _ (s o u : List ℕ) (n v c i l r : ℕ) (a : Part s o u n v c i l r) (co
     meet = omega (arith, one-more, a .meet);
   }
 
+  -- one with the bit set goes to the end
   pub part-high : 2 ^ (v - 1) ≤ x → r ≤ length o → Part s o (set u (r - 1) x) n v c (i + 1) l (r - 1)
   part-high big rl =
       let e : r - 1 + 1 ≡ r = omega (arith, apart) in
@@ -87,10 +87,12 @@ module _ (s o u : List ℕ) (n v c i l r : ℕ) (a : Part s o u n v c i l r) (co
         meet = omega (arith, one-more, a .meet, apart);
       }
 
+-- before the first slot
 pub part-none : (s o : List ℕ) (n v c : ℕ) → Part s o o n v c 0 0 c
 unfolding lows highs total
 part-none s o n v c = record { within = omega arith; full = λ k l. absurd (omega arith); long = refl; fore = refl; aft = refl; left = refl; meet = omega arith }
 
+-- at the first empty slot, or the end
 pub part-end : (s o u : List ℕ) (n v c i l r : ℕ) → Part s o u n v c i l r → r ≤ c → (i < n → getD s i 0 ≡ empty) → Split s o u n v c i l r
 part-end s o u n v c i l r a edge e = record { edge = edge; front = record { within = a .within; full = a .full; ends = e }; long = a .long; fore = a .fore; aft = a .aft; left = a .left; meet = a .meet }
 
@@ -105,6 +107,7 @@ pub record Onward (s o u : List ℕ) (f l i r : ℕ) : Type 0 where
   pub aft : drop r u ≡ drop r o
   pub meet : r + items s f ≡ l + items s i
 
+-- before the first of them
 pub onward-none : (s o : List ℕ) (f l : ℕ) → Onward s o o f l f l
 unfolding rest
 onward-none s o f l =
@@ -125,6 +128,7 @@ rest-full s f i h d =
     let k : f + (i - f) ≡ i = omega arith in
     rw z (simp (k, ne-eqb (getD s i 0) empty d))
 
+-- an empty slot
 pub onward-empty : (s o u : List ℕ) (f l i r : ℕ) → Onward s o u f l i r → getD s i 0 ≡ empty → Onward s o u f l (i + 1) r
 onward-empty s o u f l i r a e = record {
   from = omega (arith, a .from);
@@ -134,6 +138,7 @@ onward-empty s o u f l i r a e = record {
   meet = omega (arith, a .meet, items-empty s i e);
 }
 
+-- an item
 pub onward-full : (s o u : List ℕ) (f l i r : ℕ) → Onward s o u f l i r → (getD s i 0 ≡ empty → ⊥) → r < length o → Onward s o (set u r (getD s i 0)) f l (i + 1) (r + 1)
 onward-full s o u f l i r a d h =
     let k : r < length u = rw (a .long) h in
@@ -145,6 +150,7 @@ onward-full s o u f l i r a d h =
       meet = omega (arith, a .meet, items-full s i d);
     }
 
+-- after the last slot
 pub onward-end : (s o u : List ℕ) (n f l i r : ℕ) → Onward s o u f l i r → i ≡ n → Rest s o u n f l r
 onward-end s o u n f l i r a e = record { long = a .long; fore = rw (← e) (a .fore); aft = a .aft; meet = rw (← e) (a .meet) }
 

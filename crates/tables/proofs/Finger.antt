@@ -1,9 +1,9 @@
 -- Building with a finger: an item above all before it, whose home is in the run of items that the last store ended, is searched for from that run's end. Assumes nothing.
-use mathlib.Core.Path.{_≡_, refl, sym, ap, _∙_, subst}
-use mathlib.Core.Bool.{Bool, true, false, true≢false, false≢true}
-use mathlib.Core.Logic.{_⊎_, inl, inr, ⊎-elim}
+use mathlib.Core.Path.{_≡_, refl, sym, ap, _∙_}
+use mathlib.Core.Bool.{true, false, true≢false}
+use mathlib.Core.Logic.{⊎-elim}
 use mathlib.Core.List.{List}
-use Prim.Native.Nat.{ℕ, zero, suc, _+_, _-_, _*_, _^_, _≤_, _<_}
+use Prim.Native.Nat.{ℕ, _+_, _-_, _*_, _^_, _≤_, _<_}
 use native.Mathlib.Omega.{arith}
 use native.Mathlib.Nat.{le-trans, eq-or-lt-of-le, lt-of-lt-of-le as lt-le}
 use lib.ListN.{length, getD, set, length-set}
@@ -12,26 +12,12 @@ use lib.Seq.{getD-set-same, getD-set-other}
 use Rattle.tables.specs.Slots.{empty, home, next, stops, probe, spot}
 use Rattle.tables.specs.Changes.{place, fill}
 use Rattle.tables.specs.Shapes.{steps, Lawful, RunUp, AllUnder, Member, Stored, Built}
-use Rattle.tables.proofs.Laws.{stops-empty, stops-not, at-or-below}
-use Rattle.tables.proofs.Paths.{same-or-not, le-or-lt, steps-add, steps-lt, steps-inj, next-lt, Ends, probe-ends, Path-to, path, homed, at-end, stored-new, run-none}
+use Rattle.tables.proofs.Laws.{stops-empty, at-or-below}
+use Rattle.tables.proofs.Paths.{same-or-not, le-or-lt, steps-add, steps-lt, next-lt, probe-ends, Path-to, path, homed, at-end, stored-new, run-clear, run-none}
 use Rattle.tables.proofs.Delete.{steps-apart, step-on}
 use Rattle.tables.proofs.Refilled.{fill-one, items-some}
 
--- a search whose home is in a run of items below x walks the run to its end
-run-clear : (s : List ℕ) (n x h p len top d : ℕ) → RunUp s n p len top → h < n → steps n h d ≡ p → d ≤ len → top < x → (k : ℕ) → k < d → stops s x (steps n h k) ≡ false
-run-clear s n x h p len top d u hn there near above k l =
-    rw (along k) (stops-not s x (steps n (u .from) (len - d + k)) (λ g. omega (arith, g, u .under (len - d + k) (omega arith))) (u .full (len - d + k) (omega arith)))
-  where
-    joins : h ≡ steps n (u .from) (len - d)
-    joins =
-        let e : len - d + d ≡ len = omega arith in
-        steps-inj n h (steps n (u .from) (len - d)) d hn (steps-lt n (u .from) (len - d) (u .from-lt))
-        (there ∙ sym (u .meets) ∙ ap (steps n (u .from)) (sym e) ∙ steps-add n (u .from) (len - d) d)
-
-    along : (k : ℕ) → steps n h k ≡ steps n (u .from) (len - d + k)
-    along k = ap (λ z. steps n z k) joins ∙ sym (steps-add n (u .from) (len - d) k)
-
--- so it may as well start there
+-- a search whose home is in a run of items below x may as well start at the run's end
 pub resume : (s : List ℕ) (lg v c x p len top d : ℕ) → Lawful s lg v c → x < 2 ^ v → (x ≡ empty → ⊥) → RunUp s (2 ^ lg) p len top
     → steps (2 ^ lg) (home lg v x) d ≡ p → d ≤ len → top < x → spot s lg v x ≡ probe s (2 ^ lg) x (2 ^ lg) p
 resume s lg v c x p len top d l xs xe u there near above =
@@ -92,12 +78,14 @@ run-path s lg v x q d w hn dn there ql e under xe = record {
     same : (k : ℕ) → k < d → getD (set s q x) (steps (2 ^ lg) (home lg v x) k) 0 ≡ getD s (steps (2 ^ lg) (home lg v x) k) 0
     same k h = getD-set-other s q (steps (2 ^ lg) (home lg v x) k) x 0 (λ g. full k h (rw g e))
 
+-- a store of an item that is not above top leaves none above it
 pub under-set : (s : List ℕ) (n q x top : ℕ) → q < length s → AllUnder s n top → x ≤ top → AllUnder (set s q x) n top
 under-set s n q x top l f h j jn full = ⊎-elim
     (λ (e : j ≡ q). rw (e, getD-set-same s q x 0 l) h)
     (λ d. rw (getD-set-other s q j x 0 d) (f j jn (λ z. full (getD-set-other s q j x 0 d ∙ z))))
     (same-or-not j q)
 
+-- what is not above a is not above b
 pub under-more : (s : List ℕ) (n a b : ℕ) → AllUnder s n a → a ≤ b → AllUnder s n b
 under-more s n a b f h j jn full = le-trans (f j jn full) h
 
@@ -133,6 +121,7 @@ module _ (o t s : List ℕ) (lg v p len top i q : ℕ) (b : Before o t s lg v p 
   fresh-more : (k : ℕ) → k < i + 1 → Member (fill o k t lg v) (2 ^ lg) (getD o k 0) → ⊥
   fresh-more k h m = ⊎-elim (λ (e : k ≡ i). went .new refl (rw (b .now-is) (rw e at m))) (λ z. b .fresh k z m) (at-or-below h)
 
+  -- an item that is not above all others: the finger stays
   pub stay : x ≤ top → Before o t (set s q x) lg v p len top (i + 1)
   stay h = record {
     within = omega arith;
@@ -145,6 +134,7 @@ module _ (o t s : List ℕ) (lg v p len top i q : ℕ) (b : Before o t s lg v p 
     fresh = fresh-more;
   }
 
+  -- one that is: the finger moves behind it
   pub move : (d : ℕ) → top < x → home lg v x < 2 ^ lg → d < 2 ^ lg → steps (2 ^ lg) (home lg v x) d ≡ q → Before o t (set s q x) lg v (next (2 ^ lg) q) (d + 1) x (i + 1)
   move d h hn dn there = record {
     within = omega arith;
@@ -157,6 +147,7 @@ module _ (o t s : List ℕ) (lg v p len top i q : ℕ) (b : Before o t s lg v p 
     fresh = fresh-more;
   }
 
+-- before the first item
 pub first : (o t : List ℕ) (lg v : ℕ) → Lawful t lg v 0 → Before o t t lg v 0 0 0 0
 unfolding fill
 first o t lg v l = record {
@@ -170,8 +161,10 @@ first o t lg v l = record {
   fresh = λ k h. absurd (omega arith);
 }
 
+-- after the last item all are built
 pub last : (o t s : List ℕ) (lg v p len top i : ℕ) → Before o t s lg v p len top i → length o ≤ i → Built o t s lg v i
 last o t s lg v p len top i b h = record { within = b .within; now-is = b .now-is; lawful = b .lawful; fresh = b .fresh; stopped = λ l. absurd (omega arith) }
 
+-- an item that is there already ends the build
 pub twice : (o t s : List ℕ) (lg v p len top i q : ℕ) → Before o t s lg v p len top i → q < 2 ^ lg → getD s q 0 ≡ getD o i 0 → (getD o i 0 ≡ empty → ⊥) → Built o t s lg v i
 twice o t s lg v p len top i q b qn e full = record { within = b .within; now-is = b .now-is; lawful = b .lawful; fresh = b .fresh; stopped = λ l. (q, qn, e, full) }

@@ -1,17 +1,15 @@
 -- Halving a table: each turn is a rebuild that keeps the set, and the end is lawful. Assumes nothing.
-use mathlib.Core.Path.{_≡_, refl, sym, ap, _∙_, subst}
+use mathlib.Core.Path.{_≡_, refl, _∙_}
 use mathlib.Core.Bool.{Bool, true, false, _&&_}
-use mathlib.Core.Logic.{_⊎_, inl, inr, ⊎-elim}
 use mathlib.Core.List.{List}
-use Prim.Native.Nat.{ℕ, zero, suc, _+_, _-_, _*_, _^_, _≤_, _<_}
+use Prim.Native.Nat.{ℕ, zero, suc, _-_, _*_, _^_, _≤_, _<_}
 use native.Mathlib.Omega.{arith}
-use native.Mathlib.Nat.{pow-suc, le-trans}
-use lib.Pow.{pow-mono}
+use native.Mathlib.Nat.{pow-suc}
 use lib.ListN.{length, length-replicate}
-use lib.Dec.{leb, ltb}
-use borrow.Author.Tests.{lt-ltb, le-ltb, ltb-true, ltb-false}
+use lib.Dec.{ltb}
+use borrow.Author.Tests.{lt-ltb, le-ltb, ltb-true}
 use Rattle.laws.specs.Choose.{choose}
-use Rattle.laws.proofs.Truths.{and-left, and-right, and-both, true-or-false}
+use Rattle.laws.proofs.Truths.{and-left, and-right, and-both}
 use Rattle.tables.specs.Slots.{empty}
 use Rattle.tables.specs.Changes.{rebuilt, halves, halvedLg, halved}
 use Rattle.tables.specs.Shapes.{Lawful, Sound, Member}
@@ -26,9 +24,11 @@ pub record Same (s : List ℕ) (n : ℕ) (t : List ℕ) (k : ℕ) : Type 0 where
 pub halves-yes : (c lg : ℕ) → 4 * c < 2 ^ lg → 2 < lg → halves c lg ≡ true
 halves-yes c lg h l = and-both (lt-ltb (4 * c) (2 ^ lg) h) (lt-ltb 2 lg l)
 
+-- it is full enough
 pub halves-full : (c lg : ℕ) → 2 ^ lg ≤ 4 * c → halves c lg ≡ false
 halves-full c lg h = simp (le-ltb (4 * c) (2 ^ lg) h)
 
+-- it is of the least size
 pub halves-least : (c lg : ℕ) → lg ≤ 2 → halves c lg ≡ false
 halves-least c lg h = rw (le-ltb 2 lg h) (no (ltb (4 * c) (2 ^ lg)))
   where
@@ -42,25 +42,30 @@ unfolding halved
 halved-stop zero s lg v c e = refl
 halved-stop (suc times) s lg v c e = rw e
 
+-- so does the lg
 pub halvedLg-stop : (times lg c : ℕ) → halves c lg ≡ false → halvedLg times lg c ≡ lg
 unfolding halvedLg
 halvedLg-stop zero lg c e = refl
 halvedLg-stop (suc times) lg c e = rw e
 
+-- a turn: a rebuild of half the slots
 pub halved-go : (times : ℕ) (s : List ℕ) (lg v c : ℕ) → 0 < times → halves c lg ≡ true → halved times s lg v c ≡ halved (times - 1) (rebuilt s lg (lg - 1) v) (lg - 1) v c
 unfolding halved
 halved-go zero s lg v c h e = absurd (omega arith)
 halved-go (suc times) s lg v c h e = let z : suc times - 1 ≡ times = omega arith in rw (e, z)
 
+-- and the lg goes one down
 pub halvedLg-go : (times lg c : ℕ) → 0 < times → halves c lg ≡ true → halvedLg times lg c ≡ halvedLg (times - 1) (lg - 1) c
 unfolding halvedLg
 halvedLg-go zero lg c h e = absurd (omega arith)
 halvedLg-go (suc times) lg c h e = let z : suc times - 1 ≡ times = omega arith in rw (e, z)
 
+-- a rebuild keeps the region's length
 pub length-rebuilt : (s : List ℕ) (lg to v : ℕ) → length (rebuilt s lg to v) ≡ length s
 unfolding rebuilt
 length-rebuilt s lg to v = length-fill s (2 ^ lg) _ to v ∙ length-replicate (length s) empty
 
+-- a lawful table is sound
 pub lawful-sound : (s : List ℕ) (lg v c : ℕ) → Lawful s lg v c → Sound s lg v c
 lawful-sound s lg v c l = record { bits-most = l .bits-most; room = l .room; count = l .count; placed = l .placed }
 
@@ -85,15 +90,18 @@ module _ (s : List ℕ) (lg v c : ℕ) (l : Lawful s lg v c) (h : halves c lg �
   bits : lg - 1 < v
   bits = omega (arith, l .bits-least)
 
+  -- half the slots fit in the region
   pub half-room : 2 ^ (lg - 1) ≤ length s
   half-room = omega (arith, double lg (omega (arith, large)), l .room)
 
   load : 4 * c ≤ 3 * 2 ^ (lg - 1)
   load = omega (arith, double lg (omega (arith, large)), few)
 
+  -- the rebuild is lawful
   pub half-lawful : Lawful (rebuilt s lg (lg - 1) v) (lg - 1) v c
   half-lawful = rebuilt-lawful s lg v c (lg - 1) (lawful-sound s lg v c l) least most bits half-room load
 
+  -- and stands for the same set
   pub half-same : Same s (2 ^ lg) (rebuilt s lg (lg - 1) v) (2 ^ (lg - 1))
   half-same = record {
     there = rebuilt-has s lg v c (lg - 1) (lawful-sound s lg v c l) least most bits half-room load;
@@ -106,6 +114,7 @@ pub record Halved (s t : List ℕ) (lg to v c : ℕ) : Type 0 where
   pub same : Same s (2 ^ lg) t (2 ^ to)
   pub long : length t ≡ length s
 
+-- by induction on the turns that may be taken
 pub halved-is : (times : ℕ) (s : List ℕ) (lg v c : ℕ) → Lawful s lg v c → Halved s (halved times s lg v c) lg (halvedLg times lg c) v c
 unfolding halved halvedLg
 halved-is zero s lg v c l = record { lawful = l; same = record { there = λ y m. m; back = λ y m. m }; long = refl }

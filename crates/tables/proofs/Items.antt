@@ -1,19 +1,16 @@
 -- The items that a table takes: judged one, and judged in a list. Assumes nothing.
-use mathlib.Core.Path.{_≡_, refl, sym, ap, _∙_}
-use mathlib.Core.Bool.{Bool, true, false}
-use mathlib.Core.Logic.{_⊎_, ⊎-elim}
+use mathlib.Core.Path.{_≡_, refl, sym, _∙_}
+use mathlib.Core.Logic.{⊎-elim}
 use mathlib.Core.List.{List, [], _∷_}
-use Prim.Native.Nat.{ℕ, zero, suc, _+_, _^_, _≤_, _<_}
+use Prim.Native.Nat.{ℕ, zero, suc, _^_, _≤_, _<_}
 use native.Mathlib.Omega.{arith}
 use lib.ListN.{length, getD, drop, drop-of-length-le}
 use lib.Seq.{drop-cons}
-use lib.Dec.{eqb, leb}
 use borrow.Author.Tests.{eq-eqb, ne-eqb, le-leb, lt-leb}
-use Rattle.laws.specs.Choose.{choose}
 use Rattle.refusals.specs.Outcome.{Outcome, accepted, refused, stopped, andThen}
 use Rattle.tables.specs.Slots.{empty}
 use Rattle.tables.specs.Calls.{itemJudged, itemsJudged}
-use Rattle.tables.proofs.Paths.{same-or-not, le-or-lt}
+use Rattle.tables.proofs.Paths.{le-or-lt}
 
 -- an item that a table of v valid bits takes
 pub record Fine (v x : ℕ) : Type 0 where
@@ -30,19 +27,23 @@ first-accepted (accepted u) b e = (u, refl)
 first-accepted (refused number place) b e = absurd (never e)
 first-accepted (stopped number place bit) b e = let z : _≡_ {A = ℕ} 0 1 = cc in absurd (omega arith)
 
+-- so is the second
 pub then-accepted : (a b : Outcome) {values : List ℕ} → andThen a b ≡ accepted values → b ≡ accepted values
 then-accepted (accepted u) b e = e
 then-accepted (refused number place) b e = absurd (never e)
 then-accepted (stopped number place bit) b e = let z : _≡_ {A = ℕ} 0 1 = cc in absurd (omega arith)
 
+-- what a table takes is accepted
 pub item-fine : (v x place : ℕ) → Fine v x → itemJudged v x place ≡ accepted []
 unfolding itemJudged
 item-fine v x place w = simp (ne-eqb x empty (w .full), lt-leb (2 ^ v) x (w .small))
 
+-- the empty slot's number is refused by 10
 pub item-empty : (v x place : ℕ) → x ≡ empty → itemJudged v x place ≡ refused 10 place
 unfolding itemJudged
 item-empty v x place e = simp (eq-eqb x empty e)
 
+-- what is not below 2^v is refused by 12
 pub item-large : (v x place : ℕ) → (x ≡ empty → ⊥) → 2 ^ v ≤ x → itemJudged v x place ≡ refused 12 place
 unfolding itemJudged
 item-large v x place d h = simp (ne-eqb x empty d, le-leb (2 ^ v) x h)
@@ -59,6 +60,7 @@ pub items-turn : (v i : ℕ) (list : List ℕ) → i < length list
 unfolding itemsJudged
 items-turn v i list h = rw (drop-cons list i 0 h)
 
+-- no item is left
 pub items-end : (v i : ℕ) (list : List ℕ) → length list ≤ i → itemsJudged v i (drop i list) ≡ accepted []
 unfolding itemsJudged
 items-end v i list h = rw (drop-of-length-le list h)

@@ -1,27 +1,19 @@
 -- Never 15 next: what a call answers and leaves is a table that the next call takes. Assumes nothing.
-use mathlib.Core.Path.{_≡_, refl, sym, ap, _∙_, subst}
-use mathlib.Core.Bool.{Bool, true, false, not, _||_}
-use mathlib.Core.Logic.{_⊎_, inl, inr, ⊎-elim}
-use mathlib.Core.List.{List, [], _∷_}
-use Prim.Native.Nat.{ℕ, zero, suc, _+_, _-_, _*_, _^_, _≤_, _<_}
-use native.Mathlib.Omega.{arith}
+use mathlib.Core.Path.{_≡_, sym, ap, _∙_}
+use mathlib.Core.List.{List, []}
+use Prim.Native.Nat.{ℕ, _+_, _-_, _^_, _≤_, _<_}
 use lib.ListN.{length, getD, length-replicate}
-use lib.Dec.{eqb, leb, ltb}
-use borrow.Author.Tests.{eqb-true, ltb-false, not-false}
-use Rattle.laws.specs.Choose.{choose}
-use Rattle.refusals.specs.Outcome.{Outcome, accepted, refused, stopped, andThen, ifAccepted}
-use Rattle.tables.specs.Slots.{empty, sized}
+use Rattle.refusals.specs.Outcome.{Outcome, accepted, refused, ifAccepted}
+use Rattle.tables.specs.Slots.{empty}
 use Rattle.tables.specs.Changes.{blank, fill, inserted, deleted, halvedLg, buildLg}
-use Rattle.tables.specs.Calls.{recordOf, ifChanged, tableJudged, growthJudged, itemsJudged, twiceJudged, insertOf, deleteOf, insertRegion, deleteRegion, spareAfter, buildOf, ifBuilt, buildRegion, buildSpare, newOf, clearOf, blankIf}
+use Rattle.tables.specs.Calls.{recordOf, ifChanged, tableJudged, insertOf, deleteOf, buildOf, ifBuilt, buildRegion, buildSpare, newOf, clearOf, blankIf}
 use Rattle.tables.specs.Runs.{Table, Call, insert, delete, clear, valuesIn, judged, after}
-use Rattle.tables.specs.Shapes.{Lawful, Member}
+use Rattle.tables.specs.Shapes.{Lawful}
 use Rattle.tables.proofs.Refilled.{length-fill, blank-lawful}
-use Rattle.tables.proofs.Items.{Fine}
-use Rattle.tables.proofs.Bridges.{sized-is}
 use Rattle.tables.proofs.Build.{build-lawful}
 use Rattle.tables.proofs.Sizes.{build-least, build-fits}
 use Rattle.tables.proofs.Changed.{length-inserted, kept-lawful, grown-lawful, deleted-lawful, length-deleted}
-use Rattle.tables.proofs.Says.{past, judged-is, is-judged, InsertSays, refuses, there, kept, grown, insert-says, DeleteSays, missing, taken, delete-says, BuildSays, build-says}
+use Rattle.tables.proofs.Says.{judged-is, is-judged, InsertSays, refuses, there, kept, grown, insert-says, DeleteSays, missing, taken, delete-says, BuildSays, build-says, new-says}
 
 length-blank : (s : List ℕ) → length (blank s) ≡ length s
 length-blank s = length-replicate (length s) empty
@@ -82,27 +74,24 @@ recorded-as s e {lg} {v} {c} {a} {b} {d} z w =
 -- A new table that is accepted: its record, with what it leaves.
 pub new-lasts : (s e : List ℕ) (lg v a b d : ℕ) → newOf s e lg v ≡ recordOf a b d
     → tableJudged (blankIf (newOf s e lg v) s) (blankIf (newOf s e lg v) e) a b d ≡ accepted []
-unfolding newOf
 new-lasts s e lg v a b d z =
-    let third : Outcome = choose (ltb (length s) (2 ^ lg)) (refused 5 0) (recordOf lg v 0) in
-    let second : Outcome = choose (not (sized lg v)) (refused 15 0) third in
-    let f = past (not (eqb (length s) (length e))) 2 second z in
-    let g = past (not (sized lg v)) 15 third (f .1) in
-    let h = past (ltb (length s) (2 ^ lg)) 5 (recordOf lg v 0) (g .1) in
-    let w = sized-is lg v (not-false (sized lg v) (g .0)) in
+    let w = new-says s e lg v z in
+    let r = w .sizes in
     ap (λ (o : Outcome). tableJudged (blankIf o s) (blankIf o e) a b d) z
-    ∙ recorded-as (blank s) (blank e) (h .1)
-    (blank-judged s e lg v (eqb-true (length s) (length e) (not-false (eqb (length s) (length e)) (f .0))) (w .lg-least) (w .lg-most) (w .bits-least) (w .bits-most) (ltb-false (length s) (2 ^ lg) (h .0)))
+    ∙ recorded-as (blank s) (blank e) (sym (w .says) ∙ z) (blank-judged s e lg v (w .equal) (r .lg-least) (r .lg-most) (r .bits-least) (r .bits-most) (w .room))
 
--- A build that is accepted.
+-- A build that is accepted starts in an empty table.
+pub build-base : (s e : List ℕ) (v : ℕ) (list : List ℕ) → BuildSays s e v list → Lawful (blank s) (buildLg (length list)) v 0
+build-base s e v list w = blank-lawful (length s) (buildLg (length list)) v (build-least (length list)) (w .most) (w .below) (w .bits-most) (w .room)
+
+-- A build that is accepted: its record, with what it leaves.
 pub build-lasts : (s e : List ℕ) (v : ℕ) (list : List ℕ) (a b d : ℕ) → buildOf s e v list ≡ recordOf a b d → tableJudged (buildRegion s e v list) (buildSpare s e v list) a b d ≡ accepted []
 build-lasts s e v list a b d z =
     let w = build-says s e v list z in
     let lg : ℕ = buildLg (length list) in
-    let base : Lawful (blank s) (buildLg (length list)) v 0 = blank-lawful (length s) (buildLg (length list)) v (build-least (length list)) (w .most) (w .below) (w .bits-most) (w .room) in
     let built : List ℕ = fill list (length list) (blank s) (buildLg (length list)) v in
     let long : length built ≡ length (blank e) = length-fill list (length list) (blank s) (buildLg (length list)) v ∙ length-blank s ∙ w .equal ∙ sym (length-blank e) in
     ap (λ (o : Outcome). tableJudged (ifBuilt o built (blank s) s) (ifBuilt o (blank e) (blank e) e) a b d) z
     ∙ recorded-as built (blank e) (sym (w .says) ∙ z)
     (is-judged built (blank e) (buildLg (length list)) v (length list) long
-    (build-lawful list (blank s) (buildLg (length list)) v base (w .fine) (build-fits (length list) (w .most)) (w .once)))
+    (build-lawful list (blank s) (buildLg (length list)) v (build-base s e v list w) (w .fine) (build-fits (length list) (w .most)) (w .once)))

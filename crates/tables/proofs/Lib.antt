@@ -6,6 +6,8 @@ pub mod Refilled
 pub mod Finger
 pub mod Extract
 pub mod Walk
+pub mod Kept
+pub mod Extraction
 pub mod Bridges
 pub mod Items
 pub mod Build
@@ -16,3 +18,6 @@ pub mod Says
 pub mod Lasting
 pub mod Number
 pub mod PlainSet
+pub mod Once
+pub mod Stride
+pub mod Walking

@@ -1,27 +1,28 @@
 -- Laws of where a search ends: it walks from its home, slot after slot, to the first that stops it. Assumes nothing.
-use mathlib.Core.Path.{_≡_, refl, sym, ap, _∙_, subst}
+use mathlib.Core.Path.{_≡_, refl, sym, ap, _∙_}
 use mathlib.Core.Bool.{Bool, true, false, true≢false, false≢true}
 use mathlib.Core.Logic.{_⊎_, inl, inr, ⊎-elim}
 use mathlib.Core.List.{List}
-use Prim.Native.Nat.{ℕ, zero, suc, _+_, _-_, _*_, _/_, _^_, _≤_, _<_}
+use Prim.Native.Nat.{ℕ, zero, suc, _+_, _-_, _*_, _^_, _≤_, _<_}
 use native.Mathlib.Omega.{arith}
 use native.Mathlib.Nat.{zero-add, suc-add, le-trans, eq-or-lt-of-le, eq-zero-or-pos}
-use native.Mathlib.Numerals.{add-one, lt-of-le-of-ne}
+use native.Mathlib.Numerals.{lt-of-le-of-ne}
 use lib.ListN.{length, getD, set, length-set}
 use lib.Seq.{getD-set-same, getD-set-other}
 use lib.Pow.{pow-pos}
-use Rattle.laws.specs.Choose.{choose}
 pub use Rattle.laws.proofs.Orders.{same-or-not, le-or-lt}
 use Rattle.tables.specs.Slots.{empty, home, next, stops, probe, spot, held, total, items}
 use Rattle.tables.specs.Changes.{place}
-use Rattle.tables.specs.Shapes.{steps, Placed, AllPlaced, EmptyFrom, Lawful, Sound, Member, Stored, RunUp}
-use Rattle.tables.proofs.Laws.{next-wrap, next-inner, stops-same, stops-empty, stops-not, probe-stop, probe-go, items-full, items-empty, home-lt, held-empty, held-full, at-or-below}
+use Rattle.tables.specs.Shapes.{steps, Placed, AllPlaced, Lawful, Sound, Member, Stored, RunUp}
+use Rattle.tables.proofs.Laws.{next-wrap, next-inner, stops-same, stops-empty, stops-not, probe-stop, probe-go, home-lt, held-empty, held-full, at-or-below}
 
+-- so many steps, and then so many
 pub steps-add : (n p a b : ℕ) → steps n p (a + b) ≡ steps n (steps n p a) b
 unfolding steps
 steps-add n p zero b = rw zero-add
 steps-add n p (suc a) b = rw suc-add (steps-add n (next n p) a b)
 
+-- steps that do not pass the end
 pub steps-line : (n p k : ℕ) → p + k < n → steps n p k ≡ p + k
 unfolding steps
 steps-line n p zero l = omega arith
@@ -34,6 +35,7 @@ steps-line n p (suc k) l =
 pub steps-ahead : (n h p : ℕ) → p < n → h ≤ p → steps n h (p - h) ≡ p
 steps-ahead n h p pn l = steps-line n h (p - h) (omega arith) ∙ omega arith
 
+-- it lies behind: past the end
 pub steps-behind : (n h p : ℕ) → h < n → p < h → steps n h (n - h + p) ≡ p
 unfolding steps
 steps-behind n h p hn l =
@@ -54,6 +56,7 @@ steps-around n h hn z =
 pub meets : (n h p : ℕ) → h < n → p < n → (k : ℕ) × (k < n) × (steps n h k ≡ p)
 meets n h p hn pn = ⊎-elim (λ l. (p - h, omega arith, steps-ahead n h p pn l)) (λ l. (n - h + p, omega arith, steps-behind n h p hn l)) (le-or-lt h p)
 
+-- the next slot is a slot
 pub next-lt : (n p : ℕ) → p < n → next n p < n
 next-lt n p l = ⊎-elim (λ e. rw (next-wrap n p e) (omega arith)) (λ d. rw (next-inner n p d) (lt-of-le-of-ne (omega arith) d)) (same-or-not (p + 1) n)
 
@@ -67,11 +70,13 @@ next-inj n a b la lb e = go (same-or-not (a + 1) n) (same-or-not (b + 1) n)
     go (inr x) (inl y) = omega (arith, next-inner n a x, next-wrap n b y)
     go (inr x) (inr y) = omega (arith, next-inner n a x, next-inner n b y)
 
+-- so is the one after any steps
 pub steps-lt : (n p k : ℕ) → p < n → steps n p k < n
 unfolding steps
 steps-lt n p zero l = l
 steps-lt n p (suc k) l = steps-lt n (next n p) k (next-lt n p l)
 
+-- from two slots as many steps lead to two slots
 pub steps-inj : (n a b k : ℕ) → a < n → b < n → steps n a k ≡ steps n b k → a ≡ b
 unfolding steps
 steps-inj n a b zero la lb e = e
@@ -82,6 +87,7 @@ pub record Ends (s : List ℕ) (n x h e : ℕ) : Type 0 where
   pub clear : (k : ℕ) → k < e → stops s x (steps n h k) ≡ false
   pub stop : stops s x (steps n h e) ≡ true
 
+-- then a search of enough steps ends there
 pub probe-ends : (s : List ℕ) (n x left h e : ℕ) → e < left → Ends s n x h e → probe s n x left h ≡ steps n h e
 unfolding steps
 probe-ends s n x zero h e l w = absurd (omega arith)
@@ -105,6 +111,7 @@ ends-within s n x h (suc k) t = go (stops s x h) refl (ends-within s n x (next n
     go true b r = (0, omega arith, record { clear = λ k l. absurd (omega arith); stop = b })
     go false b r = (suc (r .0), omega arith, record { clear = from-next (r .0) (r .2) b; stop = r .2 .stop })
 
+-- and spot is that slot
 pub spot-ends : (s : List ℕ) (lg v x e : ℕ) → e < 2 ^ lg → Ends s (2 ^ lg) x (home lg v x) e → spot s lg v x ≡ steps (2 ^ lg) (home lg v x) e
 unfolding spot
 spot-ends s lg v x e l w = probe-ends s (2 ^ lg) x (2 ^ lg) (home lg v x) e l w
@@ -116,15 +123,18 @@ pub record Path-to (s : List ℕ) (lg v x p : ℕ) : Type 0 where
   pub ends : Ends s (2 ^ lg) x (home lg v x) count
   pub there : steps (2 ^ lg) (home lg v x) count ≡ p
 
+-- a slot that stops it within reach gives a path
 pub path-of : (s : List ℕ) (lg v x q : ℕ) → home lg v x < 2 ^ lg → q < 2 ^ lg → stops s x q ≡ true → Path-to s lg v x (spot s lg v x)
 path-of s lg v x q hn qn t =
     let m = meets (2 ^ lg) (home lg v x) q hn qn in
     let r = ends-within s (2 ^ lg) x (home lg v x) (m .0) (rw (m .2) t) in
     record { count = r .0; short = omega arith; ends = r .2; there = sym (spot-ends s lg v x (r .0) (omega arith) (r .2)) }
 
+-- a path leads to spot
 pub path-spot : {s : List ℕ} {lg v x p : ℕ} → Path-to s lg v x p → spot s lg v x ≡ p
 path-spot {s} {lg} {v} {x} w = spot-ends s lg v x (w .count) (w .short) (w .ends) ∙ w .there
 
+-- what stops a search is what stands there
 pub stops-value : (s t : List ℕ) (x p : ℕ) → getD s p 0 ≡ getD t p 0 → stops s x p ≡ stops t x p
 unfolding stops
 stops-value s t x p e = rw e
@@ -154,6 +164,7 @@ unfolding total
 total-beyond f s q a zero l = refl
 total-beyond f s q a (suc n) l = rw (total-beyond f s q a n (omega arith), getD-set-other s q n a 0 (λ e. omega arith))
 
+-- a store changes a sum by what goes and what comes
 pub total-set : (f : ℕ → ℕ) (s : List ℕ) (q a n : ℕ) → q < n → q < length s → total f (set s q a) n + f (getD s q 0) ≡ total f s n + f a
 unfolding total
 total-set f s q a zero l m = absurd (omega arith)
@@ -178,6 +189,7 @@ some-empty s (suc n) l = go (some-empty s n) (same-or-not (getD s n 0) empty)
     go ih (inl e) = (n, omega arith, e)
     go ih (inr d) = let r = ih (omega (arith, held-full (getD s n 0) d)) in (r .0, omega arith, r .2)
 
+-- a store keeps the region's length
 pub length-place : (s : List ℕ) (lg v x : ℕ) → length (place s lg v x) ≡ length s
 unfolding place
 length-place s lg v x = length-set s (spot s lg v x) x
@@ -196,6 +208,7 @@ module _ (s : List ℕ) (lg v c x : ℕ) (l : Lawful s lg v c) (xs : x < 2 ^ v) 
   pub path : (y : ℕ) → y < 2 ^ v → Path-to s lg v y (spot s lg v y)
   path y h = path-of s lg v y (free .0) (homed y h) (free .1) (stops-empty s y (free .0) (free .2))
 
+  -- the search for x ends at a slot
   pub spot-lt : spot s lg v x < 2 ^ lg
   spot-lt = rw (path x xs .there) at (steps-lt (2 ^ lg) (home lg v x) (path x xs .count) (homed x xs))
 
@@ -212,6 +225,7 @@ module _ (s : List ℕ) (lg v c x : ℕ) (l : Lawful s lg v c) (xs : x < 2 ^ v) 
   unfolding q
   stopped = rw (path x xs .there) at (path x xs .ends .stop)
 
+  -- that is empty if it is not x
   pub at-end : (getD s (spot s lg v x) 0 ≡ x → ⊥) → getD s (spot s lg v x) 0 ≡ empty
   unfolding q
   at-end d = ⊎-elim (λ e. e) (λ f. absurd (false≢true (sym (stops-not s x q d f) ∙ stopped))) (same-or-not (getD s q 0) empty)
@@ -257,17 +271,21 @@ module _ (s : List ℕ) (lg v c x : ℕ) (l : Lawful s lg v c) (xs : x < 2 ^ v) 
           found = rw g (path-spot (path-fill s lg v (getD s p 0) p q x (own p h f) ql e (λ z. absurd (d z))));
         }
 
+    -- after the store every item is placed
     pub place-placed : AllPlaced (place s lg v x) lg v (2 ^ lg)
     unfolding t
     place-placed p h f = ⊎-elim (λ (z : p ≡ q). rw z placed-q) (λ d. placed-other p h d (λ g. f (at-other p d ∙ g))) (same-or-not p q)
 
+    -- there is one more
     pub place-count : items (place s lg v x) (2 ^ lg) ≡ c + 1
     unfolding place
     place-count = omega (arith, total-set held s (spot s lg v x) x (2 ^ lg) qn ql, held-empty (getD s (spot s lg v x) 0) e, held-full x xe, l .count)
 
+    -- so the table is sound
     pub place-sound : Sound (place s lg v x) lg v (c + 1)
     place-sound = record { bits-most = l .bits-most; room = rw (length-place s lg v x) (l .room); count = place-count; placed = place-placed }
 
+    -- and lawful if it is not too full
     pub place-lawful : 4 * (c + 1) ≤ 3 * 2 ^ lg → Lawful (place s lg v x) lg v (c + 1)
     unfolding t q
     place-lawful r = record {
@@ -288,6 +306,7 @@ module _ (s : List ℕ) (lg v c x : ℕ) (l : Lawful s lg v c) (xs : x < 2 ^ v) 
         past : (p : ℕ) → 2 ^ lg ≤ p → p < length s → getD (place s lg v x) p 0 ≡ empty
         past p h m = at-other p (λ z. omega (arith, z)) ∙ l .beyond p h m
 
+    -- what it holds was there or is x
     pub place-member : (y : ℕ) → Member (place s lg v x) (2 ^ lg) y → Member s (2 ^ lg) y ⊎ (y ≡ x)
     unfolding t q
     place-member y m = ⊎-elim
@@ -295,6 +314,7 @@ module _ (s : List ℕ) (lg v c x : ℕ) (l : Lawful s lg v c) (xs : x < 2 ^ v) 
         (λ d. inl (m .0, m .1, sym (at-other (m .0) d) ∙ m .2, m .3))
         (same-or-not (m .0) q)
 
+    -- what was there it holds, and x
     pub member-place : (y : ℕ) → Member s (2 ^ lg) y ⊎ (y ≡ x) → Member (place s lg v x) (2 ^ lg) y
     unfolding t q
     member-place y (inl m) = (m .0, m .1, at-other (m .0) (λ z. m .3 (sym (m .2) ∙ rw z e)) ∙ m .2, m .3)
@@ -312,6 +332,7 @@ stored-there s lg v c x q z qn xe g = record {
   held-on = λ r. absurd (false≢true r);
 }
 
+-- it was not there, and is stored
 pub stored-new : (s : List ℕ) (lg v c x q : ℕ) → Lawful s lg v c → x < 2 ^ v → (x ≡ empty → ⊥) → 4 * (c + 1) ≤ 3 * 2 ^ lg
     → q ≡ spot s lg v x → q < 2 ^ lg → (getD s q 0 ≡ x → ⊥) → Stored s (set s q x) lg v c x true
 unfolding place
@@ -328,34 +349,37 @@ stored-new s lg v c x q l xs xe room z qn d = rw z (go (rw z at qn) (at-end s lg
       held-on = λ r. member-place s lg v c x l xs xe h e;
     }
 
+-- a search whose home is in a run of items below x walks the run to its end
+pub run-clear : (s : List ℕ) (n x h p len top d : ℕ) → RunUp s n p len top → h < n → steps n h d ≡ p → d ≤ len → top < x → (k : ℕ) → k < d → stops s x (steps n h k) ≡ false
+run-clear s n x h p len top d u hn there near above k l =
+    rw (along k) (stops-not s x (steps n (u .from) (len - d + k)) (λ g. omega (arith, g, u .under (len - d + k) (omega arith))) (u .full (len - d + k) (omega arith)))
+  where
+    joins : h ≡ steps n (u .from) (len - d)
+    joins =
+        let e : len - d + d ≡ len = omega arith in
+        steps-inj n h (steps n (u .from) (len - d)) d hn (steps-lt n (u .from) (len - d) (u .from-lt))
+        (there ∙ sym (u .meets) ∙ ap (steps n (u .from)) (sym e) ∙ steps-add n (u .from) (len - d) d)
+
+    along : (k : ℕ) → steps n h k ≡ steps n (u .from) (len - d + k)
+    along k = ap (λ z. steps n z k) joins ∙ sym (steps-add n (u .from) (len - d) k)
+
 -- An item above the `run` items before it, whose home is among them or itself, is placed: nothing is searched.
-module _ (s : List ℕ) (lg v p run top d : ℕ) (u : RunUp s (2 ^ lg) p run top) where
-  x : ℕ
-  x = getD s p 0
+pub run-placed : (s : List ℕ) (lg v p run top d : ℕ) → RunUp s (2 ^ lg) p run top → home lg v (getD s p 0) < 2 ^ lg → d < 2 ^ lg
+    → steps (2 ^ lg) (home lg v (getD s p 0)) d ≡ p → getD s p 0 < 2 ^ v → d ≤ run → top < getD s p 0 → Placed s lg v p
+run-placed s lg v p run top d u hn dn there small near above = record {
+  small = small;
+  found = spot-ends s lg v (getD s p 0) d dn (record {
+    clear = run-clear s (2 ^ lg) (getD s p 0) (home lg v (getD s p 0)) p run top d u hn there near above;
+    stop = rw there (stops-same s (getD s p 0) p refl);
+  }) ∙ there;
+}
 
-  pub run-placed : home lg v (getD s p 0) < 2 ^ lg → d < 2 ^ lg → steps (2 ^ lg) (home lg v (getD s p 0)) d ≡ p → getD s p 0 < 2 ^ v → d ≤ run → top < getD s p 0 → Placed s lg v p
-  unfolding x
-  run-placed hn dn there small near above = record {
-    small = small;
-    found = spot-ends s lg v x d dn (record { clear = clear; stop = rw there (stops-same s x p refl) }) ∙ there;
-  }
-    where
-      joins : home lg v x ≡ steps (2 ^ lg) (u .from) (run - d)
-      joins =
-          let e : run - d + d ≡ run = omega arith in
-          steps-inj (2 ^ lg) (home lg v x) (steps (2 ^ lg) (u .from) (run - d)) d hn (steps-lt (2 ^ lg) (u .from) (run - d) (u .from-lt))
-          (there ∙ sym (u .meets) ∙ ap (steps (2 ^ lg) (u .from)) (sym e) ∙ steps-add (2 ^ lg) (u .from) (run - d) d)
-
-      along : (k : ℕ) → steps (2 ^ lg) (home lg v x) k ≡ steps (2 ^ lg) (u .from) (run - d + k)
-      along k = ap (λ z. steps (2 ^ lg) z k) joins ∙ sym (steps-add (2 ^ lg) (u .from) (run - d) k)
-
-      clear : (k : ℕ) → k < d → stops s x (steps (2 ^ lg) (home lg v x) k) ≡ false
-      clear k l = rw (along k) (stops-not s x (steps (2 ^ lg) (u .from) (run - d + k)) (λ g. omega (arith, g, u .under (run - d + k) (omega arith))) (u .full (run - d + k) (omega arith)))
-
+-- no item is a run
 pub run-none : (s : List ℕ) (n p top : ℕ) → p < n → RunUp s n p 0 top
 unfolding steps
 run-none s n p top l = record { from = p; from-lt = l; meets = refl; full = λ k m. absurd (omega arith); under = λ k m. absurd (omega arith) }
 
+-- one item more
 pub run-more : (s : List ℕ) (n p run top more : ℕ) → RunUp s n p run top → top ≤ more → (getD s p 0 ≡ empty → ⊥) → getD s p 0 ≤ more → p + 1 < n → RunUp s n (p + 1) (run + 1) more
 unfolding steps
 run-more s n p run top more u l f h pn = record {

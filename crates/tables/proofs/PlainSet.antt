@@ -1,32 +1,32 @@
 -- Over accepted calls a table answers as a plain set. Assumes nothing.
 use mathlib.Core.Path.{_≡_, refl, sym, ap, ap₂, _∙_, subst}
-use mathlib.Core.Bool.{Bool, true, false, not, _&&_, _||_, true≢false, false≢true}
-use mathlib.Core.Logic.{_⊎_, inl, inr, ⊎-elim}
+use mathlib.Core.Bool.{Bool, true, false, not, _&&_, _||_, false≢true}
+use mathlib.Core.Logic.{inl, ⊎-elim}
 use mathlib.Core.List.{List, [], _∷_}
-use Prim.Native.Nat.{ℕ, zero, suc, _+_, _-_, _*_, _^_, _≤_, _<_}
+use Prim.Native.Nat.{ℕ, _+_, _-_, _^_, _≤_}
 use native.Mathlib.Omega.{arith}
 use lib.ListN.{length, getD, getD-replicate}
 use lib.Dec.{eqb}
 use borrow.Author.Tests.{eq-eqb, ne-eqb, eqb-true, eqb-false, not-true}
-use Rattle.laws.specs.Choose.{choose}
 use Rattle.laws.specs.Below.{one as told}
-use Rattle.laws.proofs.Truths.{true-or-false, never-true, same-truth, and-left, and-right, and-both, or-true, or-left, or-right}
+use Rattle.laws.proofs.Truths.{never-true, same-truth, and-left, and-right, and-both, or-true, or-left, or-right}
 use Rattle.laws.proofs.Sums.{sumBelow, sum-same}
-use Rattle.refusals.specs.Outcome.{Outcome, accepted, refused, stopped, ifAccepted}
+use Rattle.refusals.specs.Outcome.{Outcome, accepted, refused, ifAccepted}
 use Rattle.tables.specs.Slots.{empty, holds}
-use Rattle.tables.specs.Changes.{blank, inserted, deleted, halvedLg}
-use Rattle.tables.specs.Calls.{recordOf, ifChanged, tableJudged, insertOf, deleteOf, clearOf, blankIf}
-use Rattle.tables.specs.Runs.{Table, Call, insert, delete, clear, answerOf, valuesIn, recorded, after, judged, isAccepted, saidBy, allAccepted, saidAll, afterAll, setOf, plainSays, plainAfter, plainSaysAll, plainAfterAll}
+use Rattle.tables.specs.Changes.{blank, fill, buildLg, inserted, deleted, halvedLg}
+use Rattle.tables.specs.Calls.{recordOf, ifChanged, insertOf, deleteOf, clearOf, blankIf, newOf, buildOf, ifBuilt, buildRegion}
+use Rattle.tables.specs.Runs.{Table, Call, insert, delete, clear, answerOf, valuesIn, after, judged, isAccepted, saidBy, allAccepted, saidAll, afterAll, setOf, plainSays, plainAfter, plainSaysAll, plainAfterAll}
 use Rattle.tables.specs.Shapes.{Lawful, Member}
-use Rattle.tables.proofs.Items.{Fine}
-use Rattle.tables.proofs.Bridges.{holds-at, holds-member, member-holds}
+use Rattle.tables.proofs.Bridges.{holds-at, at-holds, holds-member, member-holds}
+use Rattle.tables.proofs.Build.{build-listed, build-stored}
+use Rattle.tables.proofs.Sizes.{build-fits}
 use Rattle.tables.proofs.Changed.{Added, Taken, kept-set, grown-set, deleted-set}
-use Rattle.tables.proofs.Says.{judged-is, InsertSays, refuses, there, kept, grown, insert-says, DeleteSays, missing, taken, delete-says}
-use Rattle.tables.proofs.Lasting.{clear-is, lasting}
+use Rattle.tables.proofs.Says.{judged-is, InsertSays, refuses, there, kept, grown, insert-says, DeleteSays, missing, taken, delete-says, build-says, new-says}
+use Rattle.tables.proofs.Lasting.{clear-is, lasting, build-base}
 use Rattle.tables.proofs.Number.{set-number}
 
 -- y is an item of the first n slots
-abbrev isIn : List ℕ → ℕ → ℕ → Bool
+abbrev pub isIn : List ℕ → ℕ → ℕ → Bool
 isIn s n y = not (eqb y empty) && holds s n y
 
 in-member : (s : List ℕ) (n y : ℕ) → isIn s n y ≡ true → Member s n y
@@ -84,6 +84,7 @@ pub record Plainly (t : Table) (call : Call) : Type 0 where
   pub answer : saidBy call (answerOf t call) ≡ plainSays (setOf t) call
   pub holding : (y : ℕ) → setOf (after t call) y ≡ plainAfter (setOf t) call y
 
+-- it says what the plain set says, and leaves what the plain set is
 pub plainly : (t : Table) (call : Call) → judged t ≡ accepted [] → isAccepted (answerOf t call) ≡ true → Plainly t call
 plainly t (insert x) z a =
     let w = judged-is (t .slots) (t .spare) (t .lg) (t .bits) (t .count) z in
@@ -114,6 +115,7 @@ delete-bits s lg v c x (refused number place) refuses = refl
 delete-bits s lg v c x (accepted _) (missing w m) = refl
 delete-bits s lg v c x (accepted _) (taken w m) = refl
 
+-- whatever is called
 pub bits-stay : (t : Table) (call : Call) → judged t ≡ accepted [] → after t call .bits ≡ t .bits
 bits-stay t (insert x) z =
     let w = judged-is (t .slots) (t .spare) (t .lg) (t .bits) (t .count) z in
@@ -164,6 +166,7 @@ pub record AsPlainSet (t : Table) (calls : List Call) : Type 0 where
   pub number : afterAll t calls .count ≡ sumBelow (2 ^ t .bits) (λ y. told (plainAfterAll (setOf t) calls y))
   pub lasts : judged (afterAll t calls) ≡ accepted []
 
+-- that is so, by induction on the calls
 pub as-plain-set : (t : Table) (calls : List Call) → judged t ≡ accepted [] → allAccepted t calls ≡ true → AsPlainSet t calls
 as-plain-set t calls z a =
     let r : Run t (setOf t) calls = run calls t (setOf t) z (λ y. refl) a in
@@ -177,3 +180,25 @@ as-plain-set t calls z a =
           ∙ sum-same (2 ^ t .bits) (λ y. told (setOf (afterAll t calls) y)) (λ y. told (plainAfterAll (setOf t) calls y)) (λ y h. ap told (r .holding y));
       lasts = r .lasts;
     }
+
+-- Where a run may start: a new table stands for the set with nothing in it.
+pub new-set : (s e : List ℕ) (lg v : ℕ) {values : List ℕ} → newOf s e lg v ≡ accepted values → (y : ℕ) → isIn (blankIf (newOf s e lg v) s) (2 ^ lg) y ≡ false
+new-set s e lg v z y = rw z (blank-set s (2 ^ lg) y (new-says s e lg v z .room))
+
+-- A table that is built stands for the list's items.
+pub build-set : (s e : List ℕ) (v : ℕ) (list : List ℕ) {values : List ℕ} → buildOf s e v list ≡ accepted values
+    → (y : ℕ) → isIn (buildRegion s e v list) (2 ^ buildLg (length list)) y ≡ holds list (length list) y
+build-set s e v list z y =
+    let w = build-says s e v list z in
+    let base = build-base s e v list w in
+    let lg : ℕ = buildLg (length list) in
+    let built : List ℕ = fill list (length list) (blank s) (buildLg (length list)) v in
+    let load = build-fits (length list) (w .most) in
+    ap (λ (o : Outcome). isIn (ifBuilt o built (blank s) s) (2 ^ buildLg (length list)) y) z
+    ∙ same-truth (isIn built (2 ^ buildLg (length list)) y) (holds list (length list) y)
+    (λ e.
+    let r = build-listed list (blank s) (buildLg (length list)) v base (w .fine) load (w .once) y (in-member built (2 ^ buildLg (length list)) y e) in
+    at-holds list (length list) y (r .0) (r .1) (r .2))
+    (λ e.
+    let r = holds-at list (length list) y e in
+    member-in built (2 ^ buildLg (length list)) y (subst (Member built (2 ^ buildLg (length list))) (r .2) (build-stored list (blank s) (buildLg (length list)) v base (w .fine) load (w .once) (r .0) (r .1))))

@@ -3,31 +3,34 @@ use mathlib.Core.Path.{_≡_, refl, sym, ap, _∙_, subst}
 use mathlib.Core.Bool.{Bool, true, false, true≢false, false≢true}
 use mathlib.Core.Logic.{_⊎_, inl, inr, ⊎-elim}
 use mathlib.Core.List.{List}
-use Prim.Native.Nat.{ℕ, zero, suc, _+_, _-_, _*_, _^_, _≤_, _<_}
+use Prim.Native.Nat.{ℕ, zero, suc, _+_, _*_, _^_, _≤_, _<_}
 use native.Mathlib.Omega.{arith}
-use native.Mathlib.Nat.{add-zero, zero-add, pow-suc}
+use native.Mathlib.Nat.{pow-suc}
 use lib.Pow.{pow-mono}
 use native.Mathlib.Numerals.{add-one}
-use lib.ListN.{length, getD, set, length-set, replicate, length-replicate, getD-replicate}
+use lib.ListN.{length, getD, set, replicate, length-replicate, getD-replicate}
 use lib.Dec.{eqb}
 use lib.Arith.{le-of-le-suc-ne}
 use borrow.Author.Tests.{eq-eqb, ne-eqb}
 use Rattle.laws.specs.Choose.{choose}
 use Rattle.tables.specs.Slots.{empty, spot, held, total, items}
 use Rattle.tables.specs.Changes.{place, fill, rebuilt}
-use Rattle.tables.specs.Shapes.{AllPlaced, Lawful, Sound, Member, AllSmall, Grown}
+use Rattle.tables.specs.Shapes.{Lawful, Sound, Member, AllSmall, Grown}
 use Rattle.tables.proofs.Laws.{held-empty, held-full, items-full}
 use Rattle.tables.proofs.Paths.{same-or-not, place-lawful, place-sound, place-member, member-place, only-there, at-end, spot-lt, length-place, total-set}
 use Rattle.tables.proofs.Delete.{one, one-same, one-other, tally-at, tally-some, once-placed}
 
+-- an empty slot adds nothing
 pub fill-none : (o : List ℕ) (k : ℕ) (t : List ℕ) (lg v : ℕ) → getD o k 0 ≡ empty → fill o (k + 1) t lg v ≡ fill o k t lg v
 unfolding fill
 fill-none o k t lg v e = rw (add-one k) (simp (eq-eqb (getD o k 0) empty e))
 
+-- an item is stored
 pub fill-one : (o : List ℕ) (k : ℕ) (t : List ℕ) (lg v : ℕ) → (getD o k 0 ≡ empty → ⊥) → fill o (k + 1) t lg v ≡ place (fill o k t lg v) lg v (getD o k 0)
 unfolding fill
 fill-one o k t lg v d = rw (add-one k) (simp (ne-eqb (getD o k 0) empty d))
 
+-- the region keeps its length
 pub length-fill : (o : List ℕ) (k : ℕ) (t : List ℕ) (lg v : ℕ) → length (fill o k t lg v) ≡ length t
 unfolding fill
 length-fill o zero t lg v = refl
@@ -37,6 +40,7 @@ length-fill o (suc k) t lg v = either (eqb (getD o k 0) empty) (length-fill o k 
     either true e = e
     either false e = length-place (fill o k t lg v) lg v (getD o k 0) ∙ e
 
+-- more slots have no smaller sum
 pub total-mono : (f : ℕ → ℕ) (s : List ℕ) (k n : ℕ) → k ≤ n → total f s k ≤ total f s n
 unfolding total
 total-mono f s k zero h = let e : k ≡ 0 = omega arith in rw e (omega arith)
@@ -91,6 +95,7 @@ module _ (o : List ℕ) (m : ℕ) (t : List ℕ) (lg v : ℕ) (small : AllSmall 
           let p = place-new (fill o k t lg v) lg v (items o k) (getD o k 0) (g .0) (small k h d) d u (omega (arith, i, total-mono held o (k + 1) m (omega arith))) in
           rw (fill-one o k t lg v d, i) (p .0, λ f z. p .1 f z ∙ omega (arith, g .1 f z, more f k))
 
+  -- after k slots the table is lawful, and any sum over it is the sum over those slots
   pub fill-good : (k : ℕ) → k ≤ m → Good k
   unfolding total fill
   fill-good zero h = (base, blank)
@@ -101,6 +106,7 @@ unfolding total
 total-blank f n zero z h = refl
 total-blank f n (suc k) z h = omega (arith, total-blank f n k z (omega arith), ap f (getD-replicate n k empty 0 h))
 
+-- a region that is all empty slots is a lawful table of no items
 pub blank-lawful : (n lg v : ℕ) → 2 ≤ lg → lg ≤ 26 → lg < v → v ≤ 32 → 2 ^ lg ≤ n → Lawful (replicate n empty) lg v 0
 blank-lawful n lg v a b d e room = record {
   lg-least = a;
@@ -121,10 +127,12 @@ module _ (s : List ℕ) (lg v c to : ℕ) (l : Sound s lg v c) (least : 2 ≤ to
   good = fill-good s (2 ^ lg) (replicate (length s) empty) to v (λ p h f. l .placed p h f .small) (once-placed s lg v (l .room) (l .placed)) (blank-lawful (length s) to v least most bits (l .bits-most) room)
       (λ f z. total-blank f (length s) (2 ^ to) z room) (rw (l .count) load) (2 ^ lg) (omega arith)
 
+  -- the rebuild is lawful
   pub rebuilt-lawful : Lawful (rebuilt s lg to v) to v c
   unfolding rebuilt
   rebuilt-lawful = rw (l .count) at (good .0)
 
+  -- it holds what was there
   pub rebuilt-has : (y : ℕ) → Member s (2 ^ lg) y → Member (rebuilt s lg to v) (2 ^ to) y
   unfolding rebuilt
   rebuilt-has y w =
@@ -132,6 +140,7 @@ module _ (s : List ℕ) (lg v c to : ℕ) (l : Sound s lg v c) (least : 2 ≤ to
       let p = tally-some y (fill s (2 ^ lg) (replicate (length s) empty) to v) (2 ^ to) (omega (arith, tally-at y s (2 ^ lg) (w .0) (w .1) (w .2))) in
       (p .0, p .1, p .2, w .3)
 
+  -- and nothing else
   pub rebuilt-only : (y : ℕ) → Member (rebuilt s lg to v) (2 ^ to) y → Member s (2 ^ lg) y
   unfolding rebuilt
   rebuilt-only y w =
@@ -168,6 +177,7 @@ grown-new s lg v c x q l xs xe small bits room z qn d = rw z (go (rw z at qn) (a
           held-on = λ r y m. rebuilt-has (place s lg v x) lg v (c + 1) (lg + 1) w least most bits k f y (member-place s lg v c x l xs xe h e y m);
         }
 
+-- it was there
 pub grown-there : (s : List ℕ) (lg v c x q : ℕ) → q < 2 ^ lg → (x ≡ empty → ⊥) → getD s q 0 ≡ x → Grown s s lg v c x false
 grown-there s lg v c x q qn xe g = record {
   was = λ r. (q, qn, g, xe);

@@ -1,22 +1,22 @@
 -- What the calls on a lawful table say, case by case. Assumes nothing.
-use mathlib.Core.Path.{_≡_, refl, sym, ap, _∙_, subst}
+use mathlib.Core.Path.{_≡_, refl, sym, _∙_}
 use mathlib.Core.Bool.{Bool, true, false, not, _||_, true≢false}
-use mathlib.Core.Logic.{_⊎_, inl, inr, ⊎-elim}
+use mathlib.Core.Logic.{⊎-elim}
 use mathlib.Core.List.{List, [], _∷_}
-use Prim.Native.Nat.{ℕ, zero, suc, _+_, _-_, _*_, _^_, _≤_, _<_}
+use Prim.Native.Nat.{ℕ, _+_, _-_, _^_, _≤_, _<_}
 use native.Mathlib.Omega.{arith}
 use lib.ListN.{length, getD}
 use lib.Dec.{eqb, leb, ltb}
 use borrow.Author.Tests.{eq-eqb, eqb-true, ltb-false, leb-false, not-false}
 use Rattle.laws.specs.Choose.{choose}
-use Rattle.refusals.specs.Outcome.{Outcome, accepted, refused, stopped, andThen}
-use Rattle.tables.specs.Slots.{empty, holds, lawful}
+use Rattle.refusals.specs.Outcome.{Outcome, accepted, refused, andThen}
+use Rattle.tables.specs.Slots.{empty, holds, sized, lawful}
 use Rattle.tables.specs.Changes.{fits, halvedLg, buildLg}
-use Rattle.tables.specs.Calls.{unequal, unchanged, changed, recordOf, tableJudged, itemJudged, growthJudged, itemsJudged, twiceJudged, insertOf, deleteOf, buildOf}
+use Rattle.tables.specs.Calls.{unequal, unchanged, changed, recordOf, tableJudged, itemJudged, growthJudged, itemsJudged, twiceJudged, insertOf, deleteOf, buildOf, newOf}
 use Rattle.tables.specs.Shapes.{Lawful, Member}
 use Rattle.tables.proofs.Paths.{same-or-not, le-or-lt}
 use Rattle.tables.proofs.Items.{Fine, never, first-accepted, then-accepted, item-fine, item-empty, item-large, items-fine}
-use Rattle.tables.proofs.Bridges.{lawful-is, is-lawful, holds-member, not-holds}
+use Rattle.tables.proofs.Bridges.{Sized, sized-is, lawful-is, is-lawful, holds-member, not-holds}
 use Rattle.tables.proofs.Build.{twice-none, none-twice}
 
 -- a chain of refusals that is accepted: the first test fails, and the rest is accepted
@@ -33,6 +33,7 @@ judged-is s e lg v c {values} z =
     let g = past (not (lawful s lg v c)) 15 (accepted []) (f .1) in
     (eqb-true (length s) (length e) (not-false (eqb (length s) (length e)) (f .0)), lawful-is s lg v c (not-false (lawful s lg v c) (g .0)))
 
+-- and back
 pub is-judged : (s e : List ℕ) (lg v c : ℕ) → length s ≡ length e → Lawful s lg v c → tableJudged s e lg v c ≡ accepted []
 unfolding tableJudged
 is-judged s e lg v c long l = simp (eq-eqb (length s) (length e) long, is-lawful s lg v c l)
@@ -42,6 +43,7 @@ pub data ItemSays (v x : ℕ) : Outcome → Type 0 where
   bad : {number place : ℕ} → ItemSays v x (refused number place)
   good : Fine v x → ItemSays v x (accepted [])
 
+-- what itemJudged answers is one of the two
 pub item-says : (v x place : ℕ) → ItemSays v x (itemJudged v x place)
 item-says v x place = ⊎-elim
     (λ (e : x ≡ empty). rw (item-empty v x place e) bad)
@@ -56,6 +58,7 @@ pub data GrowthSays (s : List ℕ) (lg v : ℕ) : Outcome → Type 0 where
   cannot : {number place : ℕ} → GrowthSays s lg v (refused number place)
   can : lg ≤ 26 → lg < v → 2 ^ lg ≤ length s → GrowthSays s lg v (accepted [])
 
+-- what growthJudged answers is one of the two
 pub growth-says : (s : List ℕ) (lg v : ℕ) → GrowthSays s lg v (growthJudged s lg v)
 unfolding growthJudged
 growth-says s lg v = go (ltb 26 lg) refl (leb v lg) refl (ltb (length s) (2 ^ lg)) refl
@@ -67,6 +70,7 @@ growth-says s lg v = go (ltb 26 lg) refl (leb v lg) refl (ltb (length s) (2 ^ lg
     go false p false q true r = cannot
     go false p false q false r = can (ltb-false 26 lg p) (leb-false v lg q) (ltb-false (length s) (2 ^ lg) r)
 
+-- growth that is accepted
 pub can-grow : (s : List ℕ) (lg v : ℕ) {values : List ℕ} → growthJudged s lg v ≡ accepted values → (lg ≤ 26) × (lg < v) × (2 ^ lg ≤ length s)
 can-grow s lg v {values} e = go (growthJudged s lg v) (growth-says s lg v) e
   where
@@ -82,6 +86,7 @@ pub data InsertSays (s : List ℕ) (lg v c x : ℕ) : Outcome → Type 0 where
   grown : Fine v x → (Member s (2 ^ lg) x → ⊥) → fits (c + 1) lg ≡ false → lg < 26 → lg + 1 < v → 2 ^ (lg + 1) ≤ length s
       → InsertSays s lg v c x (accepted (1 ∷ (lg + 1) ∷ v ∷ (c + 1) ∷ []))
 
+-- what insertOf answers on a lawful table is one of the four
 pub insert-says : (s e : List ℕ) (lg v c x : ℕ) → length s ≡ length e → Lawful s lg v c → InsertSays s lg v c x (insertOf s e lg v c x)
 unfolding insertOf
 insert-says s e lg v c x long l = rw (is-judged s e lg v c long l) (item (itemJudged v x 0) (item-says v x 0))
@@ -111,6 +116,7 @@ pub data DeleteSays (s : List ℕ) (lg v c x : ℕ) : Outcome → Type 0 where
   missing : Fine v x → (Member s (2 ^ lg) x → ⊥) → DeleteSays s lg v c x (accepted (0 ∷ []))
   taken : Fine v x → Member s (2 ^ lg) x → DeleteSays s lg v c x (accepted (1 ∷ halvedLg lg lg (c - 1) ∷ v ∷ (c - 1) ∷ []))
 
+-- what deleteOf answers on a lawful table is one of the three
 pub delete-says : (s e : List ℕ) (lg v c x : ℕ) → length s ≡ length e → Lawful s lg v c → DeleteSays s lg v c x (deleteOf s e lg v c x)
 unfolding deleteOf
 delete-says s e lg v c x long l = rw (is-judged s e lg v c long l) (item (itemJudged v x 0) (item-says v x 0))
@@ -134,6 +140,7 @@ pub record BuildSays (s e : List ℕ) (v : ℕ) (list : List ℕ) : Type 0 where
   pub once : twiceJudged list (length list) 0 ≡ accepted []
   pub says : buildOf s e v list ≡ recordOf (buildLg (length list)) v (length list)
 
+-- read off the answer
 pub build-says : (s e : List ℕ) (v : ℕ) (list : List ℕ) {values : List ℕ} → buildOf s e v list ≡ accepted values → BuildSays s e v list
 unfolding buildOf
 build-says s e v list {values} z =
@@ -166,3 +173,26 @@ build-says s e v list {values} z =
     neither : (a b : Bool) → (a || b) ≡ false → b ≡ false
     neither true b e = absurd (true≢false e)
     neither false b e = e
+
+-- a new table that is accepted
+pub record NewSays (s e : List ℕ) (lg v : ℕ) : Type 0 where
+  pub equal : length s ≡ length e
+  pub sizes : Sized lg v
+  pub room : 2 ^ lg ≤ length s
+  pub says : newOf s e lg v ≡ recordOf lg v 0
+
+-- read off the answer
+pub new-says : (s e : List ℕ) (lg v : ℕ) {values : List ℕ} → newOf s e lg v ≡ accepted values → NewSays s e lg v
+unfolding newOf
+new-says s e lg v z =
+    let third : Outcome = choose (ltb (length s) (2 ^ lg)) (refused 5 0) (recordOf lg v 0) in
+    let second : Outcome = choose (not (sized lg v)) (refused 15 0) third in
+    let f = past (unequal s e) 2 second z in
+    let g = past (not (sized lg v)) 15 third (f .1) in
+    let h = past (ltb (length s) (2 ^ lg)) 5 (recordOf lg v 0) (g .1) in
+    record {
+      equal = eqb-true (length s) (length e) (not-false (eqb (length s) (length e)) (f .0));
+      sizes = sized-is lg v (not-false (sized lg v) (g .0));
+      room = ltb-false (length s) (2 ^ lg) (h .0);
+      says = z ∙ sym (h .1);
+    }

@@ -1,31 +1,32 @@
 -- A delete may move its hole along in place of searching anew for each item up to the next empty slot. Assumes nothing.
 use mathlib.Core.Path.{_≡_, refl, sym, ap, _∙_, subst}
-use mathlib.Core.Bool.{Bool, true, false, true≢false}
+use mathlib.Core.Bool.{true, false, true≢false}
 use mathlib.Core.Logic.{_⊎_, inl, inr, ⊎-elim}
 use mathlib.Core.List.{List}
-use Prim.Native.Nat.{ℕ, zero, suc, _+_, _-_, _*_, _^_, _≤_, _<_}
+use Prim.Native.Nat.{ℕ, zero, suc, _+_, _-_, _^_, _≤_, _<_}
 use native.Mathlib.Omega.{arith}
 use native.Mathlib.Nat.{eq-or-lt-of-le, lt-of-lt-of-le as lt-le}
 use lib.ListN.{length, getD, set, length-set}
 use lib.Seq.{getD-set-same, getD-set-other, set-set, set-getD, set-comm}
-use lib.Dec.{eqb, leb}
 use borrow.Author.Tests.{eq-eqb, ne-eqb, le-leb, lt-leb}
-use Rattle.laws.specs.Choose.{choose}
 use Rattle.tables.specs.Slots.{empty, home, next, stops, spot}
 use Rattle.tables.specs.Changes.{place, reseat, remove}
 use Rattle.tables.specs.Shapes.{steps, apart, shifted, Lawful, Removed}
 use Rattle.tables.proofs.Laws.{stops-empty, stops-not}
-use Rattle.tables.proofs.Paths.{same-or-not, le-or-lt, steps-add, steps-ahead, steps-behind, steps-lt, steps-inj, Ends, Path-to, spot-ends}
-use Rattle.tables.proofs.Delete.{steps-apart, step-on, step-on′, own-path, reseat-done, reseat-go, Mid, start, again, was, full-y, gone, home-y, room, bL, Cluster, cluster, removed-some}
+use Rattle.tables.proofs.Paths.{same-or-not, le-or-lt, steps-add, steps-ahead, steps-behind, steps-lt, steps-inj, Path-to, spot-ends}
+use Rattle.tables.proofs.Delete.{steps-apart, step-on, step-on′, own-path, reseat-done, reseat-go, Mid, start, again, was, full-y, gone, home-y, room, bL, cluster, removed-some}
 
+-- b is not before a
 pub apart-ahead : (n a b : ℕ) → a ≤ b → apart n a b ≡ b - a
 unfolding apart
 apart-ahead n a b h = simp (le-leb a b h)
 
+-- b is before a
 pub apart-behind : (n a b : ℕ) → b < a → apart n a b ≡ n - a + b
 unfolding apart
 apart-behind n a b h = simp (lt-leb a b h)
 
+-- fewer steps than slots
 pub apart-lt : (n a b : ℕ) → a < n → b < n → apart n a b < n
 apart-lt n a b an bn = ⊎-elim (λ h. rw (apart-ahead n a b h) (omega arith)) (λ h. rw (apart-behind n a b h) (omega arith)) (le-or-lt a b)
 
@@ -41,11 +42,13 @@ apart-only n a b k an bn kn e = ⊎-elim
     (λ z. absurd (steps-apart n a k (apart n a b) an z (apart-lt n a b an bn) (e ∙ sym (apart-meets n a b an bn))))
     (le-or-lt (apart n a b) k)
 
+-- an empty slot ends it
 pub shifted-done : (s : List ℕ) (lg v left h p : ℕ) → getD s p 0 ≡ empty → shifted s lg v left h p ≡ s
 unfolding shifted
 shifted-done s lg v zero h p e = refl
 shifted-done s lg v (suc left) h p e = simp (eq-eqb (getD s p 0) empty e)
 
+-- no turn is left
 pub shifted-out : (s : List ℕ) (lg v left h p : ℕ) → left ≤ 0 → shifted s lg v left h p ≡ s
 unfolding shifted
 shifted-out s lg v zero h p l = refl
@@ -246,6 +249,7 @@ pub removed-by-shift : (s : List ℕ) (lg v c x q : ℕ) → Lawful s lg v c →
 removed-by-shift s lg v c x q l xe z qn e =
     subst (λ (t : List ℕ). Removed s t lg v c x true) (shift-is s lg v c q l qn (λ f. xe (sym e ∙ f))) (removed-some s lg v c x q l xe z qn e)
 
+-- as Changes says it
 pub remove-is : (s : List ℕ) (lg v c x : ℕ) → Lawful s lg v c → (x ≡ empty → ⊥) → spot s lg v x < 2 ^ lg → getD s (spot s lg v x) 0 ≡ x
     → remove s lg v x ≡ shifted (set s (spot s lg v x) empty) lg v (2 ^ lg) (spot s lg v x) (next (2 ^ lg) (spot s lg v x))
 unfolding remove

@@ -1,14 +1,12 @@
 -- The lg that a build starts at, that growth and halving end at. Assumes nothing.
-use mathlib.Core.Path.{_≡_, refl, sym, ap, _∙_, subst}
-use mathlib.Core.Bool.{Bool, true, false, _&&_}
-use mathlib.Core.Logic.{_⊎_, inl, inr, ⊎-elim}
+use mathlib.Core.Path.{_≡_, refl, subst}
+use mathlib.Core.Bool.{Bool, true, false}
+use mathlib.Core.Logic.{⊎-elim}
 use Prim.Native.Nat.{ℕ, zero, suc, _+_, _-_, _*_, _^_, _≤_, _<_}
 use native.Mathlib.Omega.{arith}
 use native.Mathlib.Nat.{eq-or-lt-of-le}
-use lib.Dec.{eqb, leb, ltb}
 use borrow.Author.Tests.{le-leb, lt-leb, leb-true, leb-false}
 use Rattle.laws.specs.Choose.{choose}
-use Rattle.laws.proofs.Truths.{true-or-false}
 use Rattle.tables.specs.Changes.{fits, leastLg, buildLg}
 
 -- as a loop takes it: it stands where the items fit, or goes one up
@@ -17,6 +15,7 @@ unfolding leastLg
 least-stop zero lg n h = refl
 least-stop (suc more) lg n h = simp (le-leb (4 * n) (3 * 2 ^ lg) h)
 
+-- they do not fit: one up
 pub least-go : (more lg n : ℕ) → 0 < more → 3 * 2 ^ lg < 4 * n → leastLg more lg n ≡ leastLg (more - 1) (lg + 1) n
 unfolding leastLg
 least-go zero lg n l h = absurd (omega arith)
@@ -24,6 +23,7 @@ least-go (suc more) lg n l h =
     let z : suc more - 1 ≡ more = omega arith in
     simp (lt-leb (4 * n) (3 * 2 ^ lg) h, z)
 
+-- the bound is met
 pub least-out : (more lg n : ℕ) → more ≤ 0 → leastLg more lg n ≡ lg
 unfolding leastLg
 least-out zero lg n h = refl
@@ -36,6 +36,7 @@ pub record Least (more lg n to : ℕ) : Type 0 where
   pub fit : to < lg + more → 4 * n ≤ 3 * 2 ^ to
   pub below : (k : ℕ) → lg ≤ k → k < to → 3 * 2 ^ k < 4 * n
 
+-- leastLg is that number
 pub least-is : (more lg n : ℕ) → Least more lg n (leastLg more lg n)
 unfolding leastLg
 least-is zero lg n = record { from = omega arith; most = omega arith; fit = λ l. absurd (omega arith); below = λ k a b. absurd (omega arith) }
@@ -60,6 +61,7 @@ least-is (suc more) lg n = go (fits n lg) refl (least-is more (lg + 1) n)
 pub build-least : (n : ℕ) → 2 ≤ buildLg n
 build-least n = least-is 25 2 n .from
 
+-- and not above 27
 pub build-most : (n : ℕ) → buildLg n ≤ 27
 build-most n = least-is 25 2 n .most
 

@@ -1,10 +1,9 @@
 -- A table that a caller holds, calls on it one after the other, and the plain set that it answers as. Assumes nothing.
-use Prim.Native.Nat.{ℕ, zero, suc, _+_, _^_}
+use Prim.Native.Nat.{ℕ, _+_, _^_}
 use mathlib.Core.Bool.{Bool, true, false, not, _&&_, _||_}
 use mathlib.Core.List.{List, [], _∷_}
 use lib.ListN.{getD}
 use lib.Dec.{eqb}
-use Rattle.laws.specs.Choose.{choose}
 use Rattle.refusals.specs.Outcome.{Outcome, accepted, refused, stopped}
 use Rattle.tables.specs.Slots.{empty, holds}
 use Rattle.tables.specs.Calls.{tableJudged, insertOf, deleteOf, clearOf, insertRegion, deleteRegion, spareAfter, blankIf}

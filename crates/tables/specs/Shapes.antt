@@ -1,15 +1,16 @@
 -- How laws and private contracts say it: shapes of tables, and of work half done. Nothing here has to be believed. Assumes nothing.
 use mathlib.Core.Path.{_≡_}
-use Prim.Native.Nat.{ℕ, zero, suc, _+_, _-_, _*_, _^_, _≤_, _<_}
+use Prim.Native.Nat.{ℕ, zero, suc, _+_, _-_, _*_, _%_, _^_, _≤_, _<_}
 use mathlib.Core.Bool.{Bool, true, false, not}
 use mathlib.Core.Logic.{_⊎_}
 use mathlib.Core.List.{List, [], _∷_, _++_}
 use lib.ListN.{length, getD, set, take, drop}
 use lib.Dec.{eqb, leb}
 use Rattle.laws.specs.Choose.{choose}
-use Rattle.tables.specs.Slots.{empty, home, next, probe, spot, total, held, items}
+use Rattle.tables.specs.Slots.{empty, home, next, spot, items}
 use Rattle.tables.specs.Changes.{place, remove, fill, rebuilt}
-use Rattle.tables.specs.Listings.{high}
+use Rattle.laws.specs.Lists.{listOf}
+use Rattle.tables.specs.Listings.{keep, isItem, high, strideAt}
 
 -- the slot k steps after p among n
 unfoldable pub steps : ℕ → ℕ → ℕ → ℕ
@@ -167,3 +168,15 @@ pub record Rest (s o u : List ℕ) (n f l r : ℕ) : Type 0 where
 pub record Extracted (s o u : List ℕ) (n v c i : ℕ) : Type 0 where
   pub front : Front s n i
   pub now-is : u ≡ lows s v i ++ (rest s i (n - i) ++ (highs s v i ++ drop c o))
+
+-- the items that a walk has met after i slots
+unfoldable pub metBy : List ℕ → ℕ → ℕ → List ℕ
+metBy s lg i = keep isItem (listOf i (λ j. getD s (j * strideAt lg % 2 ^ lg) 0))
+
+-- before the i-th slot of a walk, which is slot k: r items are written
+pub record Walking (s o u : List ℕ) (lg i k r : ℕ) : Type 0 where
+  pub slot : k ≡ i * strideAt lg % 2 ^ lg
+  pub long : length u ≡ length o
+  pub fore : take r u ≡ metBy s lg i
+  pub aft : drop r u ≡ drop r o
+  pub count : r ≡ length (metBy s lg i)
