@@ -2,7 +2,7 @@
 // After src/cpc/pair_table.rs of the Rust crate datasketches 0.5.0 (Apache-2.0); changed: see lib.rt, a rebuild goes through the spare, and a delete moves
 // its hole along where the Rust stores each item again: the same slots, with no search.
 ghost use mathlib.Core.Path.{_≡_};
-ghost use Prim.Native.Nat.{_+_, _-_, _^_, _≤_, _<_};
+ghost use Prim.Native.Nat.{ℕ, _+_, _-_, _^_, _≤_, _<_};
 ghost use lib.Dec.{leb};
 ghost use lib.ListN.{length, getD};
 ghost use Rattle.tables.specs.Slots.{empty, spot, next};
@@ -10,10 +10,10 @@ ghost use Rattle.tables.specs.Changes.{blank, fill, fits, rebuilt, remove, halv
 ghost use Rattle.tables.specs.Shapes.{EmptyFrom, AllSmall, Lawful, apart, shifted};
 ghost use Rattle.pair_table.specs.Steps.{InsertedBy, GrownBy, DeletedBy};
 use super::ChangeAnswer;
+use super::EMPTY;
 use super::PairTable;
 use super::Verdict;
 use super::lawfulness::judge_growth;
-use super::slots::EMPTY;
 use super::slots::dist;
 use super::slots::home_of;
 use super::slots::lookup;
@@ -175,8 +175,8 @@ fn shift(slots: &mut [u32], lg: u8, v: u8, hole: usize)
 }
 
 // Takes the item at slot `at` out.
-fn take_out(region: &mut [u32], lg: u8, v: u8, c: u32, item: u32, at: usize)
-    requires { ⌜ Lawful (now region) lg v c × (item ≡ empty → ⊥) ⌝ }
+fn take_out(region: &mut [u32], lg: u8, v: u8, item: u32, at: usize)
+    requires { ⌜ ((c : ℕ) × Lawful (now region) lg v c) × (item ≡ empty → ⊥) ⌝ }
     requires { ⌜ (at ≡ spot (now region) lg v item) × (at < 2 ^ lg) × (getD (now region) at 0 ≡ item) ⌝ }
     ensures { λ _. ⌜ now (region .exit) ≡ remove (now (region .entry)) lg v item ⌝ }
 {
@@ -219,7 +219,7 @@ pub fn delete_judged(
     if region[at] != item {
         return ChangeAnswer::Unchanged;
     }
-    take_out(region, lg, v, c, item, at);
+    take_out(region, lg, v, item, at);
     wipe(spare);
     let to = halve(region, spare, lg, v, c - 1);
     ChangeAnswer::Changed(PairTable {

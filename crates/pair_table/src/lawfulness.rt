@@ -8,8 +8,8 @@ ghost use Rattle.tables.specs.Shapes.{Decides, EmptyFrom, RunUp, Placed, AllPla
 ghost use Rattle.tables.specs.Calls.{recordOf, tableJudged, itemJudged, newOf, growthJudged};
 ghost use Rattle.refusals.specs.Outcome.{andThen};
 ghost use Rattle.pair_table.specs.Told.{toldVerdict};
+use super::EMPTY;
 use super::Verdict;
-use super::slots::EMPTY;
 use super::slots::below;
 use super::slots::dist;
 use super::slots::home_of;

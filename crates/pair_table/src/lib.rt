@@ -15,6 +15,9 @@ use lawfulness::judge_call;
 use lawfulness::judge_new;
 use refusals::Refusal;
 
+// The empty slot.
+pub const EMPTY: u32 = 0xFFFF_FFFF;
+
 // What a table is besides its slots.
 pub struct PairTable {
     // there are 2^lg slots

@@ -5,8 +5,7 @@ ghost use Prim.Native.Nat.{_^_, _≤_, _<_};
 ghost use lib.ListN.{length};
 ghost use Rattle.tables.specs.Slots.{home, next, probe, spot};
 ghost use Rattle.tables.specs.Shapes.{Decides, steps};
-
-pub const EMPTY: u32 = 0xFFFF_FFFF;
+use super::EMPTY;
 
 // The number of slots.
 pub fn size(lg: u8) -> usize

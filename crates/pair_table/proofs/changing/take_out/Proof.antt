@@ -21,7 +21,7 @@ shift-requires : tie.Need-shift-requires
 shift-requires c κs =
     let b = c .before .before in
     let a = b .args in
-    let l = b .pre .0 .0 in
+    let l = b .pre .0 .0 .1 in
     let room : a .at < length (a .region .now) = omega (arith, l .room, b .pre .1 .1) in (
       (l .lg-least, l .lg-most, l .bits-least, l .bits-most, rw (length-set (a .region .now) (a .at) empty) (l .room), b .pre .1 .1),
       small-set (a .region .now) (2 ^ a .lg) (a .v) (a .at) empty room (λ p h f. l .placed p h f .small) (λ d. absurd (d refl)),
@@ -34,7 +34,7 @@ returns : tie.Need-returns
 returns c =
     let b = c .before .before .before .before .before in
     let a = b .args in
-    taken-out (a .region .now) (a .region .now) (a .lg) (a .v) (a .c) (a .item) (a .at) (b .pre .0 .0) (b .pre .0 .1) (b .pre .1 .0) (b .pre .1 .1) (b .pre .1 .2) (c .before .before .shift .last .0) (c .before .before .shift .ensures)
+    taken-out (a .region .now) (a .region .now) (a .lg) (a .v) (b .pre .0 .0 .0) (a .item) (a .at) (b .pre .0 .0 .1) (b .pre .0 .1) (b .pre .1 .0) (b .pre .1 .1) (b .pre .1 .2) (c .before .before .shift .last .0) (c .before .before .shift .ensures)
 
 pub take-out-spec : {M : Type 1} → statement M
 take-out-spec =
