@@ -1,8 +1,8 @@
 -- Whole calls, from what their judgements and their work say. Assumes nothing.
 use mathlib.Core.Path.{_≡_, refl, sym, ap, _∙_}
-use mathlib.Core.List.{List, []}
-use Prim.Native.Nat.{ℕ, _+_, _*_, _^_, _≤_, _<_}
-use Rattle.refusals.specs.Outcome.{Outcome, accepted, refused, stopped, andThen, ifAccepted}
+use mathlib.Core.List.{List}
+use Prim.Native.Nat.{ℕ}
+use Rattle.refusals.specs.Outcome.{Outcome, refused, stopped, andThen}
 use Rattle.refusals.specs.Told.{told}
 use Rattle.refusals.specs.declared.Refusal.{Refusal}
 use Rattle.refusals.proofs.Refusing.{Refuses, by-place, by-bit, refuses, kept}

@@ -1,19 +1,18 @@
 -- Taking an item out: a hole that moves along, then halving. Assumes nothing.
 use mathlib.Core.Path.{_≡_, refl, sym, ap, _∙_, subst}
-use mathlib.Core.Bool.{Bool, true, false}
-use mathlib.Core.List.{List, []}
+use mathlib.Core.Bool.{true, false}
+use mathlib.Core.List.{List}
 use Prim.Native.Nat.{ℕ, _+_, _-_, _*_, _^_, _≤_, _<_}
 use native.Mathlib.Omega.{arith}
 use native.Mathlib.Nat.{pow-suc}
 use native.Mathlib.Numerals.{add-one}
-use lib.ListN.{length, getD, set, length-set, replicate, length-replicate}
-use lib.Dec.{eqb, leb}
+use lib.ListN.{length, getD, set, length-set, replicate}
+use lib.Dec.{leb}
 use borrow.Author.Tests.{eq-eqb, ne-eqb, leb-true, leb-false}
-use Rattle.refusals.specs.Outcome.{Outcome}
-use Rattle.tables.specs.Slots.{empty, home, next, spot, held, items, holds}
+use Rattle.tables.specs.Slots.{empty, home, next, spot, held, holds}
 use Rattle.tables.specs.Changes.{blank, remove, rebuilt, halved, halvedLg, deleted}
 use Rattle.tables.specs.Shapes.{Lawful, AllSmall, EmptyFrom, apart, shifted}
-use Rattle.tables.specs.Calls.{unchanged, changed}
+use Rattle.tables.specs.Calls.{changed}
 use Rattle.tables.proofs.Laws.{items-full}
 use Rattle.tables.proofs.Paths.{next-lt}
 use Rattle.tables.proofs.Delete.{small-set, removed-some}

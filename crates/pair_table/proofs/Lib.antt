@@ -5,3 +5,4 @@ pub mod Called
 pub mod Inserting
 pub mod Deleting
 pub mod StoringLists
+pub mod Only

@@ -1,20 +1,19 @@
 -- Rebuilds of any memory: what is stored stays within the slots and below 2 ^ v. Assumes nothing.
 use mathlib.Core.Path.{_≡_, refl, sym, ap, _∙_}
 use mathlib.Core.Bool.{Bool, true, false}
-use mathlib.Core.Logic.{_⊎_, inl, inr, ⊎-elim}
+use mathlib.Core.Logic.{_⊎_, ⊎-elim}
 use mathlib.Core.List.{List}
-use Prim.Native.Nat.{ℕ, zero, suc, _+_, _-_, _*_, _^_, _≤_, _<_}
+use Prim.Native.Nat.{ℕ, zero, suc, _+_, _-_, _^_, _≤_, _<_}
 use native.Mathlib.Omega.{arith}
-use native.Mathlib.Nat.{pow-suc}
 use native.Mathlib.Numerals.{add-one}
-use lib.ListN.{length, getD, set, replicate, length-replicate, getD-replicate}
-use lib.Seq.{getD-set-same, getD-set-other, ext-getD}
+use lib.ListN.{length, getD, replicate, length-replicate, getD-replicate}
+use lib.Seq.{getD-set-other}
 use Rattle.laws.specs.Choose.{choose}
 use Rattle.tables.specs.Slots.{empty, home, next, stops, probe, spot}
 use Rattle.tables.specs.Changes.{blank, place, fill, rebuilt}
-use Rattle.tables.specs.Shapes.{AllSmall, EmptyFrom, Lawful}
+use Rattle.tables.specs.Shapes.{AllSmall, EmptyFrom}
 use Rattle.tables.proofs.Laws.{home-lt}
-use Rattle.tables.proofs.Paths.{same-or-not, next-lt, length-place}
+use Rattle.tables.proofs.Paths.{same-or-not, next-lt}
 use Rattle.tables.proofs.Delete.{small-set}
 use Rattle.tables.proofs.Refilled.{fill-none, fill-one, length-fill}
 

@@ -1,32 +1,32 @@
 -- Building a table from a list. Assumes nothing.
 use mathlib.Core.Path.{_≡_, refl, sym, ap, _∙_, subst}
 use mathlib.Core.Bool.{Bool, true, false, _||_}
-use mathlib.Core.Logic.{⊎-elim}
 use mathlib.Core.List.{List, [], _∷_}
 use Prim.Native.Nat.{ℕ, suc, _+_, _-_, _*_, _^_, _≤_, _<_}
 use native.Mathlib.Omega.{arith}
 use native.Mathlib.Numerals.{add-one}
 use lib.ListN.{length, getD, drop, replicate, length-replicate}
 use lib.Dec.{eqb, leb, ltb}
-use borrow.Author.Tests.{eqb-true, ltb-false, leb-true, leb-false, not-false}
+use borrow.Author.Tests.{ltb-false, leb-true, leb-false}
 use Rattle.laws.specs.Choose.{choose}
-use Rattle.refusals.specs.Outcome.{Outcome, accepted, refused, stopped, andThen}
+use Rattle.refusals.specs.Outcome.{Outcome, accepted, refused, andThen}
 use Rattle.refusals.specs.Told.{told}
 use Rattle.refusals.specs.declared.Refusal.{Refusal}
 use Rattle.refusals.proofs.Only.{never-accepted}
 use Rattle.tables.specs.Slots.{empty}
 use Rattle.tables.specs.Changes.{blank, fill, fits, leastLg, buildLg}
 use Rattle.tables.specs.Shapes.{Lawful, Built}
-use Rattle.tables.specs.Calls.{unequal, recordOf, ifBuilt, itemJudged, itemsJudged, growthJudged, twiceJudged, buildOf}
+use Rattle.tables.specs.Calls.{unequal, recordOf, ifBuilt, itemJudged, itemsJudged, growthJudged, buildOf}
 use Rattle.tables.proofs.Refilled.{length-fill, blank-lawful}
 use Rattle.tables.proofs.Items.{Fine, items-turn, items-end, items-fine}
 use Rattle.tables.proofs.Sizes.{least-stop, least-go, least-out, build-least, build-fits}
 use Rattle.tables.proofs.Build.{built-whole, built-stopped}
+use Rattle.tables.proofs.Says.{past}
 use Rattle.pair_table.specs.Told.{toldTable}
 use Rattle.pair_table.specs.Steps.{lentJudged, Buildable, storeOn, buildOn, MadeBy, StoredBy, BuiltBy}
 use Rattle.pair_table.specs.declared.TableAnswer.{TableAnswer}
 use Rattle.pair_table.specs.declared.TableAnswer.the-variants as table
-use Rattle.pair_table.proofs.Judging.{ends-both, then-assoc, passed-by, neither}
+use Rattle.pair_table.proofs.Judging.{ends-both, neither}
 
 -- ---- the items, one after the other
 
@@ -111,9 +111,10 @@ built-refused whole judged more v list s e why chain r l =
 pub buildable : (s e : List ℕ) (v : ℕ) (list : List ℕ) → lentJudged s e v list ≡ accepted [] → Buildable v list
 unfolding lentJudged
 buildable s e v list h =
-    let a = passed-by (unequal s e) _ 2 0 h in
-    let b = passed-by (ltb v 3 || ltb 32 v) _ 15 0 (a .1) in
-    let d = passed-by (ltb (2 ^ 28) (length list)) (itemsJudged v 0 list) 4 0 (b .1) in
+    let third : Outcome = choose (ltb (2 ^ 28) (length list)) (refused 4 0) (itemsJudged v 0 list) in
+    let a = past (unequal s e) 2 (choose (ltb v 3 || ltb 32 v) (refused 15 0) third) h in
+    let b = past (ltb v 3 || ltb 32 v) 15 third (a .1) in
+    let d = past (ltb (2 ^ 28) (length list)) 4 (itemsJudged v 0 list) (b .1) in
     record {
       bits-most = ltb-false 32 v (neither (ltb v 3) (ltb 32 v) (b .0) .1);
       few = ltb-false (2 ^ 28) (length list) (d .0);

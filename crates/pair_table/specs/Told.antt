@@ -1,6 +1,5 @@
 -- Document 01's number and values for each answer. Assumes nothing.
-use Prim.Native.Nat.{ℕ}
-use mathlib.Core.List.{[], _∷_}
+use mathlib.Core.List.{[]}
 use Rattle.refusals.specs.Outcome.{Outcome, accepted}
 use Rattle.refusals.specs.Told.{told}
 use Rattle.tables.specs.Calls.{recordOf, unchanged, changed}

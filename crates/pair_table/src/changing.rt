@@ -63,7 +63,7 @@ fn move_back(region: &mut [u32], spare: &mut [u32], n: usize)
 }
 
 // The table anew in 2^to slots, through a spare that is empty before and after. Only the first n slots are touched: no table reaches further.
-pub fn rebuild(region: &mut [u32], spare: &mut [u32], n: usize, lg: u8, to: u8, v: u8)
+fn rebuild(region: &mut [u32], spare: &mut [u32], n: usize, lg: u8, to: u8, v: u8)
     requires { ⌜ (length (now region) ≡ length (now spare)) × (now spare ≡ blank (now spare)) × EmptyFrom (now region) n (length (now region)) × AllSmall (now region) (2 ^ lg) v ⌝ }
     requires { ⌜ (2 ^ lg ≤ n) × (2 ^ to ≤ n) × (n ≤ length (now region)) × (lg ≤ 26) × (2 ≤ to) × (to ≤ 26) × (to < v) × (v ≤ 32) ⌝ }
     ensures { λ _. ⌜ (now (region .exit) ≡ rebuilt (now (region .entry)) lg to v) × (now (spare .exit) ≡ blank (now (spare .entry))) ⌝ }
@@ -111,7 +111,7 @@ fn grow(
     }
 }
 
-// All is judged but the growth.
+// Stores an item. All is judged but the growth.
 pub fn insert_judged(
     region: &mut [u32],
     spare: &mut [u32],
@@ -202,7 +202,7 @@ fn halve(region: &mut [u32], spare: &mut [u32], lg: u8, v: u8, c: u32) -> u8
     at
 }
 
-// All is judged.
+// Takes an item out. All is judged.
 pub fn delete_judged(
     region: &mut [u32],
     spare: &mut [u32],

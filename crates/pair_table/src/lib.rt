@@ -1,6 +1,6 @@
 // The pair table: items in the slots of a lent region, with a lent spare of the same length for rebuilds.
-// After src/cpc/pair_table.rs and src/cpc/union.rs of the Rust crate datasketches 0.5.0 (Apache-2.0); changed: a record by value beside lent regions for a struct that holds a `Vec`,
-// `rebuild` takes the spare, and each call is total and refuses by number.
+// After src/cpc/pair_table.rs of the Rust crate datasketches 0.5.0 (Apache-2.0); changed: a record by value beside lent regions for a struct that holds a `Vec`,
+// `rebuild` takes the spare, and each call is total and refuses by number. Crate table_listings has extraction and the walk.
 ghost use mathlib.Core.Path.{_≡_};
 ghost use Rattle.tables.specs.Calls.{tableJudged, newOf, blankIf, buildOf, buildRegion, buildSpare, insertOf, insertRegion, deleteOf, deleteRegion, spareAfter, clearOf};
 ghost use Rattle.pair_table.specs.Told.{toldTable, toldChange, toldVerdict};

@@ -1,9 +1,8 @@
 -- `pair_table::building::build_into` meets its contract. Assumes nothing.
-use mathlib.Core.Path.{_≡_, refl, sym, ap, _∙_}
 use mathlib.Core.Logic.{⊎-elim}
-use Prim.Native.Nat.{ℕ, _+_, _-_, _^_, _≤_, _<_}
+use Prim.Native.Nat.{_-_}
 use native.Mathlib.Omega.{arith}
-use lib.ListN.{length, length-set}
+use lib.ListN.{length}
 use borrow.Author.Needs.{needs}
 use Rattle.tables.proofs.Finger.{Before, first, last, twice, stay, move}
 use Rattle.pair_table.proofs.building.build_into.Statement.{statement}

@@ -6,8 +6,8 @@ use denote.Ref.{now}
 use borrow.Author.Needs.{needs}
 use Rattle.refusals.specs.Outcome.{accepted}
 use Rattle.tables.specs.Calls.{growthJudged}
+use Rattle.tables.proofs.Says.{can-grow}
 use Rattle.pair_table.specs.Told.{toldVerdict}
-use Rattle.pair_table.proofs.Judging.{growth-passed}
 use Rattle.pair_table.proofs.StoringLists.{growth-refused, growth-done}
 use Rattle.pair_table.proofs.building.build_judged.Statement.{statement}
 use Rattle.pair_table.proofs.building.build_judged.Tie as tie
@@ -37,7 +37,7 @@ store-list-requires : tie.Need-store-list-requires
 store-list-requires c κs =
     let k = c .before .before in
     let b = begun k in
-    let w = growth-passed (b .args .region .now) (k .before .before .before .before .lg-for .result) (b .args .v) (judged k) in
+    let w = can-grow (b .args .region .now) (k .before .before .before .before .lg-for .result) (b .args .v) (judged k) in
     (b .pre, k .before .before .before .before .lg-for .ensures .0, w .0, w .1, w .2)
 
 same-length : tie.Need-same-length

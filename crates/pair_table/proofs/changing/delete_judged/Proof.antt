@@ -3,7 +3,6 @@ use mathlib.Core.Path.{refl, sym, _∙_}
 use Prim.Native.Nat.{_-_, _≤_}
 use native.Mathlib.Omega.{arith}
 use denote.Ref.{now}
-use lib.ListN.{take}
 use borrow.Author.Needs.{needs}
 use Rattle.pair_table.proofs.Inserting.{wiped}
 use Rattle.pair_table.proofs.Deleting.{some-item, out-lawful, delete-done, delete-missing}

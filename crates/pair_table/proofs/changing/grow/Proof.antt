@@ -8,8 +8,8 @@ use lib.ListN.{length-set}
 use borrow.Author.Needs.{needs}
 use Rattle.refusals.specs.Outcome.{accepted}
 use Rattle.tables.specs.Calls.{growthJudged}
+use Rattle.tables.proofs.Says.{can-grow}
 use Rattle.pair_table.specs.Told.{toldVerdict}
-use Rattle.pair_table.proofs.Judging.{growth-passed}
 use Rattle.pair_table.proofs.Inserting.{few, grow-needs, grown-refused, grown-done}
 use Rattle.pair_table.proofs.changing.grow.Statement.{statement}
 use Rattle.pair_table.proofs.changing.grow.Tie as tie
@@ -56,7 +56,7 @@ rebuild-requires c κs =
     let b = begun k in
     let a = b .args in
     grow-needs (a .region .now) (a .spare .now) (a .lg) (a .v) (a .c) (a .item) (a .at) (b .pre .0 .0) (b .pre .0 .1) (b .pre .1 .0) (b .pre .1 .1) (b .pre .1 .2)
-    (c .before .before .before .before .before .wipe .last .0) (c .before .before .size .result) (c .before .before .before .before .before .wipe .ensures) (c .before .before .size .ensures) (growth-passed (a .region .now) (a .lg + 1) (a .v) (judged k))
+    (c .before .before .before .before .before .wipe .last .0) (c .before .before .size .result) (c .before .before .before .before .before .wipe .ensures) (c .before .before .size .ensures) (can-grow (a .region .now) (a .lg + 1) (a .v) (judged k))
 
 add-t20 : tie.Need-add-t20
 add-t20 c = search needs

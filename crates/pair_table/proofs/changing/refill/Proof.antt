@@ -1,10 +1,9 @@
 -- `pair_table::changing::refill` meets its contract. Assumes nothing.
 use mathlib.Core.Path.{_≡_, refl, sym, ap, _∙_}
 use mathlib.Core.Logic.{⊎-elim}
-use Prim.Native.Nat.{ℕ, _+_, _-_, _^_, _≤_, _<_}
+use Prim.Native.Nat.{ℕ, _-_, _≤_}
 use native.Mathlib.Omega.{arith}
 use lib.ListN.{getD, set, length, length-set}
-use borrow.Author.Needs.{needs}
 use Rattle.tables.specs.Changes.{fill, place}
 use Rattle.tables.proofs.Refilled.{fill-none, fill-one}
 use Rattle.pair_table.proofs.changing.refill.Statement.{statement}

@@ -1,9 +1,8 @@
 -- `pair_table::changing::wipe` meets its contract. Assumes nothing.
-use mathlib.Core.Path.{_≡_, refl, sym, ap, _∙_}
-use Prim.Native.Nat.{ℕ, _+_, _-_, _^_, _≤_, _<_}
+use mathlib.Core.Path.{_≡_, refl}
+use Prim.Native.Nat.{ℕ, _-_, _≤_, _<_}
 use native.Mathlib.Omega.{arith}
-use lib.ListN.{length, length-set, getD, set}
-use lib.Seq.{getD-set-other, ext-getD}
+use lib.ListN.{length, length-set, getD}
 use Rattle.tables.specs.Slots.{empty}
 use Rattle.tables.proofs.Laws.{upto-set, all-empty}
 use Rattle.pair_table.proofs.changing.wipe.Statement.{statement}

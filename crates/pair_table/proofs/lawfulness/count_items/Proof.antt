@@ -1,7 +1,7 @@
 -- `pair_table::lawfulness::count_items` meets its contract. Assumes nothing.
 use mathlib.Core.Path.{sym, ap, _∙_, _≡_, refl}
 use mathlib.Core.Logic.{⊎-elim}
-use Prim.Native.Nat.{_+_, ℕ, _-_, _≤_, _<_}
+use Prim.Native.Nat.{_+_, _-_, _≤_}
 use native.Mathlib.Omega.{arith}
 use Rattle.tables.specs.Slots.{items, total}
 use Rattle.tables.proofs.Laws.{items-full, items-empty}

@@ -1,8 +1,7 @@
 -- `pair_table::lawfulness::empty_from` meets its contract. Assumes nothing.
-use mathlib.Core.Path.{sym, ap, _∙_, _≡_, refl}
-use Prim.Native.Nat.{ℕ, _-_, _≤_, _<_}
+use Prim.Native.Nat.{_-_, _≤_}
 use native.Mathlib.Omega.{arith}
-use lib.ListN.{length, getD}
+use lib.ListN.{length}
 use Rattle.tables.specs.Shapes.{EmptyFrom}
 use Rattle.tables.proofs.Laws.{says-yes, says-no, empty-more}
 use Rattle.pair_table.proofs.lawfulness.empty_from.Statement.{statement}

@@ -6,8 +6,9 @@ use denote.Ref.{now}
 use borrow.Author.Needs.{needs}
 use Rattle.refusals.specs.Outcome.{Outcome, accepted, andThen}
 use Rattle.tables.specs.Calls.{tableJudged, itemJudged}
+use Rattle.tables.proofs.Says.{judged-is}
 use Rattle.pair_table.specs.Told.{toldVerdict}
-use Rattle.pair_table.proofs.Judging.{ends-both, table-passed}
+use Rattle.pair_table.proofs.Judging.{ends-both}
 use Rattle.pair_table.proofs.lawfulness.judge_call.Statement.{statement}
 use Rattle.pair_table.proofs.lawfulness.judge_call.Tie as tie
 
@@ -26,7 +27,7 @@ enum-told c = search needs
 judge-item-requires : tie.Need-judge-item-requires
 judge-item-requires c κs =
     let a = c .before .before .before .before .before .args in
-    table-passed (now (a .slots)) (now (a .spare)) (a .lg) (a .v) (a .c) (sym (passed c)) .1 .bits-most
+    judged-is (now (a .slots)) (now (a .spare)) (a .lg) (a .v) (a .c) (sym (passed c)) .1 .bits-most
 
 returns : tie.Need-returns
 returns c =

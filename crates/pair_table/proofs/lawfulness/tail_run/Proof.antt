@@ -6,7 +6,6 @@ use native.Mathlib.Nat.{le-trans, eq-or-lt-of-le}
 use native.Mathlib.Omega.{arith}
 use lib.ListN.{getD}
 use Rattle.tables.specs.Slots.{empty}
-use Rattle.tables.specs.Shapes.{RunUp}
 use Rattle.tables.proofs.Paths.{run-tail}
 use Rattle.pair_table.proofs.lawfulness.tail_run.Statement.{statement}
 use Rattle.pair_table.proofs.lawfulness.tail_run.Tie as tie

@@ -1,9 +1,7 @@
 -- `pair_table::slots::seek` meets its contract. Assumes nothing.
 use mathlib.Core.Path.{_≡_, refl, sym, _∙_, ap}
-use Prim.Native.Nat.{ℕ, _-_, _≤_, _<_}
+use Prim.Native.Nat.{_-_, _<_}
 use native.Mathlib.Omega.{arith}
-use lib.ListN.{length}
-use borrow.Author.Needs.{needs}
 use Rattle.tables.specs.Slots.{next, probe}
 use Rattle.tables.proofs.Laws.{stops-same, stops-empty, stops-not, probe-stop, probe-go, probe-out}
 use Rattle.pair_table.proofs.slots.seek.Statement.{statement}

@@ -1,12 +1,11 @@
 -- `table_listings::extraction::take_front` meets its contract. Assumes nothing.
-use mathlib.Core.Path.{_≡_, refl, sym, ap, _∙_}
+use mathlib.Core.Path.{_≡_}
 use mathlib.Core.Logic.{⊎-elim}
-use Prim.Native.Nat.{ℕ, _+_, _-_, _^_, _≤_, _<_}
+use Prim.Native.Nat.{_-_, _^_, _≤_, _<_}
 use native.Mathlib.Nat.{mod-eq-of-lt, one-mul}
 use native.Mathlib.Omega.{arith}
 use lib.Pow.{pow-lt}
-use lib.ListN.{length, getD, set}
-use Rattle.tables.specs.Slots.{empty}
+use lib.ListN.{length}
 use Rattle.tables.proofs.Extract.{Part, apart, part-low, part-high, part-none, part-end}
 use Rattle.table_listings.proofs.extraction.take_front.Statement.{statement}
 use Rattle.table_listings.proofs.extraction.take_front.Tie as tie

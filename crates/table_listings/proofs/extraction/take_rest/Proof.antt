@@ -1,13 +1,9 @@
 -- `table_listings::extraction::take_rest` meets its contract. Assumes nothing.
-use mathlib.Core.Path.{_≡_, refl, sym, ap, _∙_}
 use mathlib.Core.Logic.{⊎-elim}
-use Prim.Native.Nat.{ℕ, _+_, _-_, _^_, _≤_, _<_}
+use Prim.Native.Nat.{_-_, _≤_, _<_}
 use native.Mathlib.Omega.{arith}
-use lib.ListN.{length, getD, set}
-use Rattle.tables.specs.Slots.{empty, held, items}
+use lib.ListN.{length}
 use Rattle.tables.proofs.Extract.{placed-in, Onward, onward-none, onward-empty, onward-full, onward-end}
-use Rattle.tables.proofs.Laws.{items-full}
-use Rattle.tables.proofs.Refilled.{total-mono}
 use Rattle.table_listings.proofs.extraction.take_rest.Statement.{statement}
 use Rattle.table_listings.proofs.extraction.take_rest.Tie as tie
 
