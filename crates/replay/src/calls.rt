@@ -10,5 +10,9 @@ pub fn run(line: &[u8]) -> Verdict {
     let Verdict::NoSuchCall = books else {
         return books;
     };
-    replay_streams::run(line)
+    let streams = replay_streams::run(line);
+    let Verdict::NoSuchCall = streams else {
+        return streams;
+    };
+    replay_tables::run(line)
 }
