@@ -34,6 +34,11 @@ says-told told e is = says-as (ap told (sym is) ∙ e)
 pub says-value : {v w : ℕ} {result : ℕ} {answer : List ℕ} → v ≡ w → Says (accepted (v ∷ [])) result answer → Says (accepted (w ∷ [])) result answer
 says-value e = says-as (ap (λ (n : ℕ). accepted (n ∷ [])) e)
 
+-- the second of five values
+pub says-second : {a v w b c d : ℕ} {result : ℕ} {answer : List ℕ} → v ≡ w → Says (accepted (a ∷ v ∷ b ∷ c ∷ d ∷ [])) result answer
+    → Says (accepted (a ∷ w ∷ b ∷ c ∷ d ∷ [])) result answer
+says-second {a} {v} {w} {b} {c} {d} e = says-as (ap (λ (n : ℕ). accepted (a ∷ n ∷ b ∷ c ∷ d ∷ [])) e)
+
 -- the values that are answered: what stands at the first six places
 pub six-values : (values : List ℕ)
     → getD values 0 0 ∷ getD values 1 0 ∷ getD values 2 0 ∷ getD values 3 0 ∷ getD values 4 0 ∷ getD values 5 0 ∷ [] ≡ padded 6 values

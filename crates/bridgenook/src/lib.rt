@@ -6,4 +6,5 @@ pub mod number_calls;
 pub mod practice_books;
 pub mod stream_calls;
 pub mod table_calls;
+pub mod union_calls;
 pub mod unit_counts;

@@ -21,7 +21,7 @@ fn say_number(number: NumberAnswer, answer: &mut [u64; 8]) -> u32
 }
 
 // The flavors in their order.
-fn flavor_number(flavor: Flavor) -> u64
+pub fn flavor_number(flavor: Flavor) -> u64
     ensures { λ r. ⌜ r ≡ flavorNumber flavor ⌝ }
 {
     match flavor {
