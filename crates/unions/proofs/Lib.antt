@@ -8,5 +8,6 @@ pub mod PlanSteps
 pub mod ShapeTold
 pub mod SourceTaken
 pub mod SplitTold
+pub mod Stretches
 pub mod Summing
 pub mod Zeroing
