@@ -1,5 +1,6 @@
 -- Laws that belong to no one function.
 pub mod Answered
+pub mod EightBytes
 pub mod HeldCounted
 pub mod JudgedSteps
 pub mod MergeTold

@@ -1,6 +1,6 @@
 -- How private contracts say it: what is judged so far, and work half done. Nothing here has to be believed. Assumes nothing.
 use mathlib.Core.Path.{_≡_}
-use Prim.Native.Nat.{ℕ, _*_, _/_, _%_, _^_, _≤_, _<_}
+use Prim.Native.Nat.{ℕ, _+_, _*_, _/_, _%_, _^_, _≤_, _<_}
 use mathlib.Core.Bool.{Bool, true, not, _&&_, _||_}
 use mathlib.Core.List.{List, [], _∷_}
 use lib.Count.{trailingZeros}
@@ -118,3 +118,7 @@ unfoldable pub splitJudged : ℕ → List ℕ → ℕ → ℕ → Outcome
 splitJudged lg m bytes room =
     choose (outside lg) (refused 1 0)
     (choose (wrongRows lg m || not (eqb bytes (2 ^ lg))) (refused 2 0) (choose (reserved lg m) (refused 10 67108863) (roomJudged lg m room)))
+
+-- four bytes as one number, lowest first
+abbrev pub fourAt : List ℕ → ℕ → ℕ
+fourAt bytes i = getD bytes i 0 + getD bytes (i + 1) 0 * 256 + getD bytes (i + 2) 0 * 65536 + getD bytes (i + 3) 0 * 16777216
