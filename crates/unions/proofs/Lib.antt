@@ -1,5 +1,6 @@
 -- Laws that belong to no one function.
 pub mod Answered
+pub mod EightBytes
 pub mod HeldCounted
 pub mod JudgedSteps
 pub mod MergeTold
@@ -8,5 +9,6 @@ pub mod PlanSteps
 pub mod ShapeTold
 pub mod SourceTaken
 pub mod SplitTold
+pub mod Stretches
 pub mod Summing
 pub mod Zeroing

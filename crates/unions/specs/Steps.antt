@@ -1,6 +1,6 @@
 -- How private contracts say it: what is judged so far, and work half done. Nothing here has to be believed. Assumes nothing.
 use mathlib.Core.Path.{_≡_}
-use Prim.Native.Nat.{ℕ, _*_, _/_, _%_, _^_, _≤_}
+use Prim.Native.Nat.{ℕ, _+_, _*_, _/_, _%_, _^_, _≤_, _<_}
 use mathlib.Core.Bool.{Bool, true, not, _&&_, _||_}
 use mathlib.Core.List.{List, [], _∷_}
 use lib.Count.{trailingZeros}
@@ -8,6 +8,7 @@ use lib.Dec.{eqb, ltb}
 use lib.ListN.{length, getD}
 use Rattle.laws.specs.Below.{anyBelow, everyBelow}
 use Rattle.laws.specs.Choose.{choose}
+use Rattle.laws.specs.Columns.{has}
 use Rattle.refusals.specs.Outcome.{Outcome, accepted, refused}
 use Rattle.refusals.specs.Told.{told}
 use Rattle.numbers.specs.Calls.{outside}
@@ -17,7 +18,7 @@ use Rattle.pair_lists.specs.Lists.{pairsJudged}
 use Rattle.matrices.specs.Calls.{wrongRows, offsetIn, windowIn, listed}
 use Rattle.matrices.specs.Matrix.{at, matrixOf, coupons, reserved}
 use Rattle.matrices.specs.Parts.{surprisePairs, firstColumn}
-use Rattle.matrices.specs.Shapes.{folded, merged}
+use Rattle.matrices.specs.Shapes.{folded, merged, joinedAt}
 use Rattle.matrices.specs.Source.{expanded, hasWindow, held}
 use Rattle.unions.specs.declared.planning.Plan.{Plan}
 use Rattle.unions.specs.declared.planning.Plan.the-variants as plan
@@ -27,6 +28,22 @@ use Rattle.unions.specs.declared.splitting.Surprises.{Surprises}
 -- m, and the first n pairs of a list, their rows taken mod k
 abbrev pub pairsSet : ℕ → List ℕ → List ℕ → ℕ → ℕ → ℕ → Bool
 pairsSet k m ps n r c = at m r c || anyBelow n (λ i. eqb (getD ps i 0 / 64 % k) r && eqb c (getD ps i 0 % 64))
+
+-- from `start` on, no pair of the list is in a row before r
+pub record NoneBefore (ps : List ℕ) (start r : ℕ) : Type 0 where
+  pub none : (i : ℕ) → start ≤ i → i < length ps → 64 * r ≤ getD ps i 0
+
+-- a stretch without a pair ends at the last row, or before it at the first row with one
+pub record EndsAt (ps : List ℕ) (start last r : ℕ) : Type 0 where
+  pub most : r ≤ last
+  pub before : NoneBefore ps start r
+  pub least : (from : ℕ) → from ≤ last → NoneBefore ps start from → from ≤ r
+
+-- whatever source was merged up to row `from`: if its rows up to `to` are those of the window alone, it is merged up to `to`
+pub record Stretched (k o : ℕ) (window : List ℕ) (from to : ℕ) (before after : List ℕ) : Type 0 where
+  pub long : length after ≡ length before
+  pub rows : (m : List ℕ) (src : ℕ → ℕ → Bool) → ((r c : ℕ) → from ≤ r → r < to → c < 64 → has (joinedAt o (getD window r 0) 0) c ≡ src r c) → length m ≡ length before
+      → before ≡ matrixOf (length m) (merged k from m src) → after ≡ matrixOf (length m) (merged k to m src)
 
 -- m, and a source, its rows taken mod 2^lg: row by row if it has a window, else pair by pair
 abbrev pub sourceMerged : ℕ → Bool → ℕ → List ℕ → List ℕ → List ℕ → List ℕ
@@ -101,3 +118,7 @@ unfoldable pub splitJudged : ℕ → List ℕ → ℕ → ℕ → Outcome
 splitJudged lg m bytes room =
     choose (outside lg) (refused 1 0)
     (choose (wrongRows lg m || not (eqb bytes (2 ^ lg))) (refused 2 0) (choose (reserved lg m) (refused 10 67108863) (roomJudged lg m room)))
+
+-- four bytes as one number, lowest first
+abbrev pub fourAt : List ℕ → ℕ → ℕ
+fourAt bytes i = getD bytes i 0 + getD bytes (i + 1) 0 * 256 + getD bytes (i + 2) 0 * 65536 + getD bytes (i + 3) 0 * 16777216

@@ -14,7 +14,7 @@ ghost use Rattle.laws.specs.Columns.{has};
 ghost use Rattle.refusals.specs.Outcome.{accepted, andThen};
 ghost use Rattle.matrices.specs.Matrix.{inWindow};
 ghost use Rattle.matrices.specs.Source.{pastColumns, windowJudged, columnsJudged, placesJudged, sourceJudged};
-ghost use Rattle.unions.specs.Steps.{ShapeOf, WideSource, heldJudged};
+ghost use Rattle.unions.specs.Steps.{ShapeOf, WideSource, heldJudged, fourAt};
 ghost use Rattle.unions.specs.Told.{toldJudged};
 use super::planning::Shape;
 use pair_lists::PairsAnswer;
@@ -92,16 +92,42 @@ fn late_bit(lg: u8, offset: u64, window: &[u8]) -> bool
     ((window[67108863] as u64) >> (63 - offset)) % 2 == 1
 }
 
-// The set bits of all window bytes.
-fn count_window(window: &[u8]) -> u32
-    requires { ⌜ length (now window) ≤ 67108864 ⌝ }
+fn wide(byte: u8) -> u64
+    ensures { λ r. ⌜ (r ≡ byte) × (r < 256) ⌝ }
+{
+    byte as u64
+}
+
+// Four bytes as one number, lowest first.
+fn four_at(window: &[u8], i: usize) -> u64
+    requires { ⌜ i + 4 ≤ length (now window) ⌝ }
+    ensures { λ r. ⌜ (r ≡ fourAt (now (window .entry)) i) × (r < 4294967296) ⌝ }
+{
+    wide(window[i])
+        + wide(window[i + 1]) * 0x100
+        + wide(window[i + 2]) * 0x1_0000
+        + wide(window[i + 3]) * 0x100_0000
+}
+
+// The set bits of eight bytes, counted as one word.
+fn count_eight(window: &[u8], i: usize) -> u64
+    requires { ⌜ i + 8 ≤ length (now window) ⌝ }
+    ensures { λ r. ⌜ (r ≡ ones (fourAt (now (window .entry)) (i + 4)) + ones (fourAt (now (window .entry)) i)) × (r ≤ 64) ⌝ }
+{
+    let word = four_at(window, i) + four_at(window, i + 4) * 0x1_0000_0000;
+    u64::count_ones(word) as u64
+}
+
+// The set bits of all window bytes, eight at a time: a window has a multiple of eight.
+fn count_window(window: &[u8]) -> u64
+    requires { ⌜ (length (now window) ≤ 67108864) × (length (now window) % 8 ≡ 0) ⌝ }
     ensures { λ r. ⌜ (r ≡ sumBelow (length (now (window .entry))) (λ i. ones (getD (now (window .entry)) i 0))) × (r ≤ 536870912) ⌝ }
 {
-    let mut sum: u32 = 0;
+    let mut sum: u64 = 0;
     let mut i = 0;
     while i < window.len() {
-        sum += u32::count_ones(window[i] as u32);
-        i += 1;
+        sum += count_eight(window, i);
+        i += 8;
     }
     sum
 }
@@ -136,7 +162,7 @@ fn judge_held(lg: u8, coupons: u32, offset: u64, window: &[u8], pairs: &[u32]) -
     if late_bit(lg, offset, window) {
         return Judgement::Refused(Refusal::Reserved { place: 67108863 });
     }
-    let sum = offset * (window.len() as u64) + (count_window(window) as u64) + (pairs.len() as u64);
+    let sum = offset * (window.len() as u64) + count_window(window) + (pairs.len() as u64);
     if sum != (coupons as u64) + 2 * count_below(offset, pairs) {
         return Judgement::Refused(Refusal::WrongCoupons);
     }

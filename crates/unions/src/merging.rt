@@ -2,14 +2,15 @@
 // After src/cpc/union.rs (or_window_into_matrix, or_table_into_matrix, or_matrix_into_matrix, reduce_k) of the Rust crate datasketches 0.5.0 (Apache-2.0); changed: a matrix is folded where it
 // lies, pairs come as an increasing list, and a row of a source is put together and ORed at once, so that no second matrix is built.
 ghost use mathlib.Core.Path.{_≡_};
-ghost use Prim.Native.Nat.{_+_, _*_, _/_, _^_, _≤_, _<_, min};
-ghost use lib.ListN.{length, replicate};
-ghost use Rattle.laws.specs.Columns.{wordOf};
+ghost use mathlib.Core.Bool.{_||_};
+ghost use Prim.Native.Nat.{_+_, _-_, _*_, _/_, _%_, _^_, _≤_, _<_, min};
+ghost use lib.ListN.{length, set, replicate};
+ghost use Rattle.laws.specs.Columns.{has, wordOf};
 ghost use Rattle.matrices.specs.Listing.{inList};
-ghost use Rattle.matrices.specs.Matrix.{matrixOf};
+ghost use Rattle.matrices.specs.Matrix.{at, matrixOf};
 ghost use Rattle.matrices.specs.Shapes.{folded, merged, Sorted, Between};
 ghost use Rattle.matrices.specs.Source.{expanded};
-ghost use Rattle.unions.specs.Steps.{pairsSet, sourceMerged, lowered};
+ghost use Rattle.unions.specs.Steps.{pairsSet, sourceMerged, lowered, EndsAt, Stretched};
 use super::clearing::clear;
 use super::planning::Shape;
 use super::words::join;
@@ -56,7 +57,59 @@ fn row_pairs(pairs: &[u32], start: usize, row: u64) -> Row
     Row { word: w, next: i }
 }
 
-// The rows of a source with a window are merged into the first 2^lg rows of a matrix.
+// The last row that can follow `row` without a gap in 2^lg rows, and below the end.
+fn last_row(row: usize, lg: u8, end: usize) -> usize
+    requires { ⌜ (lg ≤ 26) × (row < end) × (end ≤ 67108864) ⌝ }
+    ensures { λ r. ⌜ (row ≤ r) × (r < end) × (row % 2 ^ lg + (r - row) < 2 ^ lg) ⌝ }
+{
+    let last = row + ((1 << (lg as u64)) - 1 - row_in(row as u64, lg) as usize);
+    if last < end {
+        return last;
+    }
+    end - 1
+}
+
+// Where the rows without a pair end: at the row of the next pair, or at the last one.
+fn stretch_end(pairs: &[u32], start: usize, last: usize) -> usize
+    requires { ⌜ Sorted (now pairs) ⌝ }
+    ensures { λ r. ⌜ EndsAt (now (pairs .entry)) start last r ⌝ }
+{
+    if pairs.len() <= start {
+        return last;
+    }
+    let row = (pairs[start] / 64) as usize;
+    if row < last {
+        return row;
+    }
+    last
+}
+
+// The rows of a source from `from` to `to` on, which have no pairs, are merged into rows that follow each other.
+fn merge_stretch(matrix: &mut [u64], lg: u8, offset: u64, window: &[u8], from: usize, to: usize)
+    requires { ⌜ (lg ≤ 26) × (2 ^ lg ≤ length (now matrix)) × (from ≤ to) × (to ≤ length (now window)) × (to ≤ 67108864) × (from % 2 ^ lg + (to - from) < 2 ^ lg) × (offset < 64) ⌝ }
+    ensures { λ _. ⌜ Stretched (2 ^ lg) offset (now (window .entry)) from to (now (matrix .entry)) (now (matrix .exit)) ⌝ }
+{
+    let mut t = row_in(from as u64, lg) as usize;
+    let mut r = from;
+    while r < to {
+        let old = matrix[t];
+        matrix[t] = or_words(old, join(window[r], 0, offset));
+        t += 1;
+        r += 1;
+    }
+}
+
+// A word is merged into the row of 2^lg on which its row falls.
+fn merge_row(matrix: &mut [u64], lg: u8, row: usize, word: u64)
+    requires { ⌜ (lg ≤ 26) × (2 ^ lg ≤ length (now matrix)) ⌝ }
+    ensures { λ _. ⌜ now (matrix .exit) ≡ set (now (matrix .entry)) (row % 2 ^ lg) (wordOf 64 (λ c. at (now (matrix .entry)) (row % 2 ^ lg) c || has word c)) ⌝ }
+{
+    let t = row_in(row as u64, lg) as usize;
+    let old = matrix[t];
+    matrix[t] = or_words(old, word);
+}
+
+// The rows of a source with a window are merged into the first 2^lg rows of a matrix: stretches without a pair, and between them rows with their pairs.
 pub fn merge_rows(matrix: &mut [u64], lg: u8, offset: u64, window: &[u8], pairs: &[u32])
     requires { ⌜ (lg ≤ 26) × (2 ^ lg ≤ length (now matrix)) × (length (now window) ≤ 67108864) × (offset < 64) × Sorted (now pairs) ⌝ }
     ensures { λ _. ⌜ now (matrix .exit) ≡ matrixOf (length (now (matrix .entry))) (merged (2 ^ lg) (length (now (window .entry))) (now (matrix .entry)) (expanded offset (now (window .entry)) (now (pairs .entry)))) ⌝ }
@@ -64,13 +117,12 @@ pub fn merge_rows(matrix: &mut [u64], lg: u8, offset: u64, window: &[u8], pairs:
     let mut start = 0;
     let mut r = 0;
     while r < window.len() {
-        let row = row_pairs(pairs, start, r as u64);
-        let w = join(window[r], row.word, offset);
-        let t = row_in(r as u64, lg) as usize;
-        let old = matrix[t];
-        matrix[t] = or_words(old, w);
+        let stop = stretch_end(pairs, start, last_row(r, lg, window.len()));
+        merge_stretch(matrix, lg, offset, window, r, stop);
+        let row = row_pairs(pairs, start, stop as u64);
+        merge_row(matrix, lg, stop, join(window[stop], row.word, offset));
         start = row.next;
-        r += 1;
+        r = stop + 1;
     }
 }
 

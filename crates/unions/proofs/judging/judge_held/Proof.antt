@@ -11,6 +11,7 @@ use lib.Pow.{pow-mono}
 use Rattle.laws.specs.Below.{countBelow}
 use Rattle.matrices.specs.Matrix.{matrixOf, coupons, reserved}
 use Rattle.matrices.specs.Source.{held}
+use Rattle.unions.proofs.EightBytes.{eights}
 use Rattle.unions.proofs.HeldCounted.{held-reserved, held-count}
 use Rattle.unions.proofs.JudgedSteps.{held-late, held-wrong, held-right}
 use borrow.Author.Needs.{needs}
@@ -41,10 +42,9 @@ mul-sum : tie.Need-mul-sum
 mul-sum c = omega (arith, product c)
 
 count-window-requires : tie.Need-count-window-requires
-count-window-requires c κs = short c
-
-cast-sum : tie.Need-cast-sum
-cast-sum c = search needs
+count-window-requires c κs =
+    let w = begun c .pre .0 in
+    (short c, ap (λ (n : ℕ). n % 8) (w .long) ∙ eights (begun c .args .lg) (w .low))
 
 add-sum : tie.Need-add-sum
 add-sum c = omega (arith, product (c .before), c .count-window .ensures .1)
@@ -102,7 +102,6 @@ judge-held-spec =
     returns
     mul-sum
     count-window-requires
-    cast-sum
     add-sum
     add-sum-2
     count-below-requires

@@ -1,0 +1,55 @@
+-- Stretches of rows without a pair. Assumes nothing.
+use mathlib.Core.Path.{_≡_, refl, sym, ap, _∙_, subst}
+use mathlib.Core.Bool.{Bool, _||_}
+use mathlib.Core.List.{List}
+use Prim.Native.Nat.{ℕ, _+_, _-_, _*_, _/_, _%_, _≤_, _<_}
+use native.Mathlib.Nat.{mod-add-div', add-comm}
+use native.Mathlib.Omega.{arith}
+use lib.Arith.{digits-mod}
+use lib.ListN.{length, getD, set, length-set}
+use Rattle.laws.specs.Columns.{has, wordOf}
+use Rattle.matrices.specs.Listing.{inList}
+use Rattle.matrices.specs.Matrix.{at, matrixOf}
+use Rattle.matrices.specs.Shapes.{merged, joinedAt, Between}
+use Rattle.matrices.specs.Source.{expanded}
+use Rattle.matrices.proofs.Joined.{join-expanded}
+use Rattle.matrices.proofs.Merging.{merge-turn}
+use Rattle.matrices.proofs.SourceRows.{gather-start, gather-end}
+use Rattle.unions.specs.Steps.{NoneBefore, Stretched}
+
+-- rows that follow each other fall on rows that follow each other, up to k
+pub falls-next : (k row d : ℕ) → row % k + d < k → (row + d) % k ≡ row % k + d
+falls-next k row d h =
+    let e : row % k + row / k * k ≡ row = mod-add-div' row k in
+    let q : row + d ≡ row / k * k + (row % k + d) = omega arith in
+    ap (λ (x : ℕ). x % k) q ∙ digits-mod (row / k) h
+
+module _ (k o : ℕ) (window : List ℕ) (from : ℕ) (before : List ℕ) where
+  pub stretch-start : Stretched k o window from from before before
+  stretch-start = record { long = refl; rows = λ m src same l e. e }
+
+  pub stretch-turn : (pos : 0 < k) (r t : ℕ) (now : List ℕ) → k ≤ length before → from ≤ r → t ≡ r % k → Stretched k o window from r before now
+      → Stretched k o window from (r + 1) before (set now t (wordOf 64 (λ c. at now t c || has (joinedAt o (getD window r 0) 0) c)))
+  stretch-turn pos r t now h l et s = record {
+    long = length-set now t _ ∙ s .long;
+    rows = λ m src same n e.
+        let is = s .rows m src (λ u c a b d. same u c a (omega arith) d) n e in
+        ap (λ (x : ℕ). set now x (wordOf 64 (λ c. at now x c || has (joinedAt o (getD window r 0) 0) c))) et
+        ∙ ap (λ (x : List ℕ). set x (r % k) (wordOf 64 (λ c. at x (r % k) c || has (joinedAt o (getD window r 0) 0) c))) is
+        ∙ merge-turn m k pos src r (omega arith) (λ c. at (matrixOf (length m) (merged k r m src)) (r % k) c || has (joinedAt o (getD window r 0) 0) c)
+        (λ c d. ap (λ (b : Bool). at (matrixOf (length m) (merged k r m src)) (r % k) c || b) (same r c l (omega arith) d));
+  }
+
+-- a row without pairs is its window byte
+module _ (ps : List ℕ) (start from to : ℕ) (b : Between ps start (64 * from) (64 * from)) (n : NoneBefore ps start to) where
+  pub stretch-between : (r : ℕ) → from ≤ r → r ≤ to → Between ps start (64 * r) (64 * r)
+  stretch-between r h l = record { within = b .within; before = λ i g. omega (arith, b .before i g); after = λ i g f. omega (arith, n .none i g f) }
+
+  no-pairs : (r : ℕ) → from ≤ r → r < to → 0 ≡ wordOf 64 (λ c. inList ps (64 * r + c))
+  no-pairs r h l =
+      let next : 64 * (r + 1) ≡ 64 * r + 64 = omega arith in
+      gather-start ps r start (stretch-between r h (omega arith))
+      ∙ gather-end ps r start (subst (λ (x : ℕ). Between ps start x x) next (stretch-between (r + 1) (omega arith) (omega arith)))
+
+  pub window-row : (o : ℕ) (window : List ℕ) (r c : ℕ) → from ≤ r → r < to → c < 64 → has (joinedAt o (getD window r 0) 0) c ≡ expanded o window ps r c
+  window-row o window r c h l d = join-expanded o window ps r 0 c (no-pairs r h l) d
