@@ -1,4 +1,4 @@
-//! Tells the linker where the static library of the proved calls lies; `src/ours.rs` names it.
+//! Tells the linker where the static library of the proved calls lies; `src/ours` names it.
 
 use std::env;
 use std::path::Path;

@@ -4,6 +4,7 @@
 //! In every case ours must answer what document 01 says (the plain reading). Outside of the intended
 //! classes the Rust must say the same.
 
+use std::cell::RefCell;
 use std::collections::BTreeMap;
 use std::fmt::Display;
 use std::fs::File;
@@ -43,19 +44,21 @@ pub struct Sides<O, S = O> {
 }
 
 /// What the Rust said wherever an intended class holds. A panic anywhere else ends the run.
-pub struct RustAnswers(BufWriter<File>);
+pub struct RustAnswers(RefCell<BufWriter<File>>);
 
 impl RustAnswers {
     pub fn create(path: &Path) -> Result<Self> {
-        Ok(Self(BufWriter::new(File::create(path)?)))
+        Ok(Self(RefCell::new(BufWriter::new(File::create(path)?))))
     }
 
-    fn keep(&mut self, call: &str, class: &str, input: impl Display, said: &str) {
-        writeln!(self.0, "{call}\t{class}\t{input}\t{said}").expect("the answers can be written");
+    /// Several calls that are compared side by side keep what they hear in one file.
+    fn keep(&self, call: &str, class: &str, input: impl Display, said: &str) {
+        let mut file = self.0.borrow_mut();
+        writeln!(file, "{call}\t{class}\t{input}\t{said}").expect("the answers can be written");
     }
 
-    pub fn finish(mut self) -> Result<()> {
-        self.0.flush()
+    pub fn finish(self) -> Result<()> {
+        self.0.into_inner().flush()
     }
 }
 
@@ -67,7 +70,7 @@ pub struct AgainstRust<'a, I: 'static> {
     cases: u64,
     /// Where the Rust says the same, by the number of the refusal.
     equal: BTreeMap<u32, u64>,
-    rust_answers: &'a mut RustAnswers,
+    rust_answers: &'a RustAnswers,
 }
 
 /// What fell into a class: how often, and the smallest input with both answers.
@@ -82,7 +85,7 @@ impl<'a, I: Ord + Display> AgainstRust<'a, I> {
     pub fn new(
         call: &'static str,
         classes: &'static [Class<I>],
-        rust_answers: &'a mut RustAnswers,
+        rust_answers: &'a RustAnswers,
     ) -> Self {
         Self {
             call,

@@ -31,11 +31,20 @@ impl<T: Copy + PartialEq> Listed<T> {
             runs: list.chunk_by(|one, next| one == next).map(run).collect(),
         }
     }
+
+    pub fn holds(&self, wanted: T) -> bool {
+        self.any(|&value| value == wanted)
+    }
 }
 
 impl<T> Listed<T> {
     pub fn len(&self) -> usize {
         self.length
+    }
+
+    /// One of the values passes the test.
+    pub fn any(&self, test: impl Fn(&T) -> bool) -> bool {
+        self.runs.iter().any(|run| test(&run.value))
     }
 
     pub fn values(&self) -> impl Iterator<Item = &T> {

@@ -7,6 +7,7 @@ mod answer;
 mod books;
 mod cases;
 mod compare;
+mod lent_tables;
 mod listed;
 mod ours;
 mod plain_reading;
@@ -20,12 +21,14 @@ use std::path::PathBuf;
 
 use crate::cases::RustAnswers;
 use crate::compare::streams;
+use crate::compare::tables;
 
 /// What the calls are tried on besides the chosen inputs.
 struct Effort {
     random_numbers: u64,
     random_book_sets: u64,
     streams: streams::Effort,
+    tables: tables::Effort,
 }
 
 /// Debug is there for the Rust's own checks, which the chosen inputs meet; it is slow, and tries less.
@@ -39,6 +42,14 @@ const EFFORT: Effort = if cfg!(debug_assertions) {
             zeros: 1 << 16,
             huge: false,
         },
+        tables: tables::Effort {
+            every_valid: 3,
+            calls: 1_000,
+            most: 8,
+            longest_list: 10_000,
+            damaged: 2,
+            huge: false,
+        },
     }
 } else {
     Effort {
@@ -48,6 +59,14 @@ const EFFORT: Effort = if cfg!(debug_assertions) {
             longest_list: 4000,
             step: 1,
             zeros: 1 << 22,
+            huge: true,
+        },
+        tables: tables::Effort {
+            every_valid: 4,
+            calls: 2_000,
+            most: 12,
+            longest_list: 100_000,
+            damaged: 10,
             huge: true,
         },
     }
@@ -74,6 +93,7 @@ fn main() -> Result<()> {
     compare::book_calls::compare(&sets);
     compare::practice::compare();
     streams::compare(&sets, &mut rust_answers, &EFFORT.streams);
+    tables::compare(&rust_answers, &EFFORT.tables);
     rust_answers.finish()?;
     if let Some(path) = option("--sample") {
         sample::write(&path, &sets[0])?;

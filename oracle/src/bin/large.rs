@@ -8,11 +8,13 @@
 mod answer;
 #[path = "../books/mod.rs"]
 mod books;
+#[path = "../lent_tables.rs"]
+mod lent_tables;
 #[path = "../listed.rs"]
 mod listed;
 #[path = "../compare/streams/lists.rs"]
 mod lists;
-#[path = "../ours.rs"]
+#[path = "../ours/mod.rs"]
 mod ours;
 #[path = "../plain_reading/mod.rs"]
 mod plain_reading;

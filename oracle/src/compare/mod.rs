@@ -6,6 +6,7 @@ pub mod numbers;
 pub mod practice;
 pub mod stand_in;
 pub mod streams;
+pub mod tables;
 pub mod thresholds;
 
 /// The right lengths of every lent book, book set and table, and lengths beside them.

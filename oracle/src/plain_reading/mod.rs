@@ -8,3 +8,4 @@ pub mod numbers;
 pub mod pair_lists;
 pub mod practice;
 pub mod streams;
+pub mod tables;

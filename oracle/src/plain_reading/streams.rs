@@ -24,7 +24,7 @@ pub const MOST_PAIRS: u64 = 1 << 28;
 /// The most bytes that a reader is lent.
 pub const MOST_BYTES: usize = 1 << 30;
 
-fn refuse_if(wrong: bool, number: u32) -> Result<(), Answer> {
+pub(super) fn refuse_if(wrong: bool, number: u32) -> Result<(), Answer> {
     match wrong {
         true => Err(Answer::refused(number)),
         false => Ok(()),

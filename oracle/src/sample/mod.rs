@@ -3,12 +3,15 @@
 
 mod numbers;
 mod streams;
+mod tables;
 
+use std::fmt::Display;
 use std::fs;
 use std::io::Result;
 use std::path::Path;
 
 use crate::books::BookSet;
+use crate::listed::Listed;
 
 const HEADING: &str = "\
 # Answers of the Rust crate datasketches 0.5.0, unchanged, at the thresholds of each number.
@@ -23,6 +26,11 @@ const STREAMS_HEADING: &str = "\
 # document 01's, since the Rust does not tell them.
 ";
 
+const TABLES_HEADING: &str = "\
+# Pair tables of the Rust's own: what its calls leave. A table is its lg, valid bits and items, then its region and
+# its spare. The slots are the Rust's; the region beyond them and the spare are document 01's, since the Rust has none.
+";
+
 const LG_KS: [u8; 7] = [4, 5, 6, 10, 13, 20, 26];
 
 /// The first set is the one of the practice books.
@@ -31,5 +39,18 @@ pub fn write(path: &Path, practice: &BookSet) -> Result<()> {
     numbers::write(&mut text);
     text += STREAMS_HEADING;
     streams::write(&mut text, practice);
+    text += TABLES_HEADING;
+    tables::write(&mut text);
     fs::write(path, text)
+}
+
+/// What each item of lent memory holds before, and how many more than needed an output has.
+const BEFORE: u8 = 9;
+const MORE: usize = 3;
+
+/// Memory full of one number, and with other items at its front.
+fn before_and_after<T: Copy + PartialEq + Display + From<u8>>(items: &[T]) -> (String, String) {
+    let before = vec![T::from(BEFORE); items.len() + MORE];
+    let after = [items, &before[items.len()..]].concat();
+    (Listed::of(&before).whole(), Listed::of(&after).whole())
 }

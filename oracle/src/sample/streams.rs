@@ -1,9 +1,10 @@
 //! Pairs and windows, written and read back.
 
-use std::fmt::Display;
 use std::fmt::Write;
 
+use super::BEFORE;
 use super::LG_KS;
+use super::before_and_after;
 use crate::books::BookSet;
 use crate::compare::streams::lists::SPREADS;
 use crate::compare::streams::lists::random_list;
@@ -12,10 +13,6 @@ use crate::listed::Listed;
 use crate::plain_reading::streams as reading;
 use crate::random::Random;
 use crate::rust;
-
-/// What each item of an output holds before, and how many more than needed there are.
-const BEFORE: u8 = 9;
-const MORE: usize = 3;
 
 pub fn write(text: &mut String, practice: &BookSet) {
     rust::install(practice);
@@ -35,13 +32,6 @@ pub fn write(text: &mut String, practice: &BookSet) {
     for _ in 0..6 {
         write_window(text, practice, &random_window(4, &mut random));
     }
-}
-
-/// Memory full of one number, and with other items at its front.
-fn before_and_after<T: Copy + PartialEq + Display + From<u8>>(items: &[T]) -> (String, String) {
-    let before = vec![T::from(BEFORE); items.len() + MORE];
-    let after = [items, &before[items.len()..]].concat();
-    (Listed::of(&before).whole(), Listed::of(&after).whole())
 }
 
 fn write_pairs(text: &mut String, books: &BookSet, lg: u8, pairs: &[u32]) {

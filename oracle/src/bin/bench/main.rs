@@ -1,5 +1,5 @@
-//! Two tables of timings: the checks of books, and the streams of pairs beside the Rust. They are for
-//! reading; none of them is a test.
+//! Three tables of timings: the checks of books, then the streams of pairs and the pair table beside the
+//! Rust. They are for reading; none of them is a test.
 
 // The modules are those of the comparison, and a benchmark needs a part of each.
 #![allow(dead_code)]
@@ -9,12 +9,15 @@ mod answer;
 mod book_table;
 #[path = "../../books/mod.rs"]
 mod books;
+#[path = "../../lent_tables.rs"]
+mod lent_tables;
 #[path = "../../listed.rs"]
 mod listed;
 #[path = "../../compare/streams/lists.rs"]
 mod lists;
-#[path = "../../ours.rs"]
+#[path = "../../ours/mod.rs"]
 mod ours;
+mod pair_table;
 #[path = "../../plain_reading/mod.rs"]
 mod plain_reading;
 #[path = "../../random.rs"]
@@ -26,4 +29,6 @@ fn main() {
     book_table::print();
     println!();
     stream_table::print();
+    println!();
+    pair_table::print();
 }

@@ -8,6 +8,8 @@ pub enum Spread {
     Even,
     /// Next to each other, with a few gaps, from anywhere on.
     Dense,
+    /// Next to each other for a while, then a gap.
+    Clustered,
     /// With gaps of any length.
     Uneven,
 }
@@ -21,21 +23,28 @@ pub fn cells(lg: u8) -> u64 {
 
 /// So many increasing pairs.
 pub fn random_list(lg: u8, count: u64, spread: Spread, random: &mut Random) -> Vec<u32> {
+    increasing(cells(lg), count, spread, random)
+}
+
+/// So many increasing numbers below a limit, which are not more than that.
+pub fn increasing(limit: u64, count: u64, spread: Spread, random: &mut Random) -> Vec<u32> {
     let mut next = 0;
-    let pair = |left: u64| {
-        let free = cells(lg) - next - left;
+    let number = |left: u64| {
+        let free = limit - next - left;
         let gap = match spread {
             Spread::Even => random.below(2 * (free / left) + 1),
             Spread::Dense if left == count => random.below(free + 1),
             Spread::Dense if random.below(16) == 0 => random.below(128),
             Spread::Dense => 0,
+            Spread::Clustered if random.below(300) == 0 => random.below(600 * (free / left) + 1),
+            Spread::Clustered => 0,
             Spread::Uneven => random.below(free + 1) >> random.below(33),
         };
-        let pair = next + gap.min(free);
-        next = pair + 1;
-        pair as u32
+        let number = next + gap.min(free);
+        next = number + 1;
+        number as u32
     };
-    (1..=count).rev().map(pair).collect()
+    (1..=count).rev().map(number).collect()
 }
 
 /// A number of pairs for each number of base bits at k = 2^lg, and one over k, as far as they are not

@@ -5,6 +5,8 @@
 //! methods of a public type are public wherever in the crate they stand: so `CpcSketch`, which is
 //! public, gets one function more, and that hands out everything else.
 
+mod tables;
+
 use super::Coded;
 use super::install;
 use crate::codec::SketchBytes;

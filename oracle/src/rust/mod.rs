@@ -1,5 +1,7 @@
 //! The Rust's side: the crate as given, with its panics caught.
 
+pub mod tables;
+
 use std::cell::Cell;
 use std::panic::AssertUnwindSafe;
 use std::panic::catch_unwind;

@@ -3,6 +3,8 @@
 //! Nothing checks these declarations against the library, so they stand in one place and are few. A
 //! call fills its answer whole; it is handed one full of garbage, so that an unwritten part shows.
 
+pub mod tables;
+
 use crate::answer::Answer;
 use crate::plain_reading::books::Coded;
 
