@@ -9,3 +9,4 @@ pub mod Columns
 pub mod Exponents
 pub mod Quotients
 pub mod Powers
+pub mod Bijections

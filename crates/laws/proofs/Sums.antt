@@ -62,7 +62,7 @@ unfolding sumBelow
 single-none zero c l = refl
 single-none (suc s) c l = omega (arith, single-none s c (omega arith), ap one (ne-eqb s c (λ (e : s ≡ c). omega arith)))
 
-single : (s c : ℕ) → c < s → sumBelow s (λ i. one (eqb i c)) ≡ 1
+pub single : (s c : ℕ) → c < s → sumBelow s (λ i. one (eqb i c)) ≡ 1
 unfolding sumBelow
 single zero c l = absurd (omega arith)
 single (suc s) c l =

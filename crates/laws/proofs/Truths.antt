@@ -1,5 +1,5 @@
 -- Truth values. Assumes nothing.
-use mathlib.Core.Path.{_≡_, refl, ap, ap₂}
+use mathlib.Core.Path.{_≡_, refl, sym, ap, ap₂}
 use mathlib.Core.Logic.{_⊎_, inl, inr}
 use mathlib.Core.Bool.{Bool, true, false, _&&_, _||_, false≢true}
 
@@ -11,6 +11,11 @@ pub never-true : (b : Bool) → (b ≡ true → ⊥) → b ≡ false
 never-true true h = absurd (h refl)
 never-true false h = refl
 
+-- each says what the other says
+pub same-truth : (a b : Bool) → (a ≡ true → b ≡ true) → (b ≡ true → a ≡ true) → a ≡ b
+same-truth true b f g = sym (f refl)
+same-truth false b f g = sym (never-true b (λ (e : b ≡ true). false≢true (g e)))
+
 pub and-left : (a b : Bool) → (a && b) ≡ true → a ≡ true
 and-left true b e = refl
 and-left false b e = e
@@ -21,6 +26,10 @@ and-right false b e = absurd (false≢true e)
 
 pub and-both : {a b : Bool} → a ≡ true → b ≡ true → (a && b) ≡ true
 and-both p q = ap₂ _&&_ p q
+
+pub and-true : (a : Bool) → (a && true) ≡ a
+and-true true = refl
+and-true false = refl
 
 pub or-true : (a b : Bool) → (a || b) ≡ true → (a ≡ true) ⊎ (b ≡ true)
 or-true true b e = inl refl

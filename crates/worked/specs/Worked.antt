@@ -9,6 +9,7 @@ use Rattle.numbers.specs.declared.Flavor.the-variants.{Sparse, Hybrid, Pinned, 
 use Rattle.numbers.specs.Told.{flavorNumber}
 use Rattle.numbers.specs.Calls.{flavorOf, offsetOf, phaseOf}
 use Rattle.practice.specs.Practice.{pairBook, windowBook}
+use Rattle.tables.specs.Listings.{strideAt}
 
 -- a line of the table: what is asked, and the answer
 pub data Line : Type 0 where
@@ -17,6 +18,8 @@ pub data Line : Type 0 where
   offset phase : ℕ → ℕ → ℕ → Line
   -- a symbol of the practice pair book, a byte of the practice window book
   symbol byte : ℕ → ℕ → Line
+  -- of the walk, at an lg
+  stride : ℕ → ℕ → Line
 
 abbrev pub Holds : Line → Type 0
 Holds (flavor lg c f) = flavorOf lg c ≡ accepted (flavorNumber f ∷ [])
@@ -24,6 +27,7 @@ Holds (offset lg c o) = offsetOf lg c ≡ accepted (o ∷ [])
 Holds (phase lg c p) = phaseOf lg c ≡ accepted (p ∷ [])
 Holds (symbol x entry) = getD pairBook x 0 ≡ entry
 Holds (byte b entry) = getD windowBook b 0 ≡ entry
+Holds (stride lg slots) = strideAt lg ≡ slots
 
 abbrev pub Every : List Line → Type 0
 Every [] = Unit {0}
@@ -51,4 +55,7 @@ table =
     ∷ symbol 7 41008
     ∷ symbol 64 41968
     ∷ byte 255 37374
+    ∷ stride 2 3
+    ∷ stride 3 5
+    ∷ stride 4 9
     ∷ []

@@ -1,0 +1,152 @@
+// A table built from a list of items.
+// After `from_slots` in src/cpc/pair_table.rs of the Rust crate datasketches 0.5.0 (Apache-2.0); changed: see lib.rt, and an item above all before it is searched for from where the last search
+// ended, so that a rising list is stored in one pass.
+ghost use mathlib.Core.Path.{_≡_};
+ghost use Prim.Native.Nat.{ℕ, _*_, _^_, _≤_, _<_};
+ghost use lib.ListN.{length, getD};
+ghost use Rattle.tables.specs.Slots.{empty, spot, items};
+ghost use Rattle.tables.specs.Changes.{buildLg};
+ghost use Rattle.tables.specs.Shapes.{RunUp, Lawful, Built};
+ghost use Rattle.tables.specs.Calls.{itemsJudged};
+ghost use Rattle.pair_table.specs.Told.{toldVerdict};
+ghost use Rattle.pair_table.specs.Steps.{lentJudged, Buildable, StoredBy, BuiltBy};
+use super::PairTable;
+use super::TableAnswer;
+use super::Verdict;
+use super::changing::fit;
+use super::changing::wipe;
+use super::lawfulness::judge_growth;
+use super::lawfulness::judge_item;
+use super::slots::dist;
+use super::slots::home_of;
+use super::slots::seek;
+use super::slots::size;
+use super::slots::step;
+use refusals::Refusal;
+
+// Refusals 10, 12: the first bad item.
+fn judge_items(v: u8, list: &[u32]) -> Verdict
+    requires { ⌜ v ≤ 32 ⌝ }
+    ensures { λ r. ⌜ toldVerdict r ≡ itemsJudged v 0 (now (list .entry)) ⌝ }
+{
+    let mut i = 0;
+    while i < list.len() {
+        if let Verdict::Refused(why) = judge_item(v, list[i], i as u64) {
+            return Verdict::Refused(why);
+        }
+        i += 1;
+    }
+    Verdict::Passes
+}
+
+// Refusals 2, 15, 4, 10, 12.
+pub fn judge_lent(v: u8, list: &[u32], region: &[u32], spare: &[u32]) -> Verdict
+    ensures { λ r. ⌜ toldVerdict r ≡ lentJudged (now (region .entry)) (now (spare .entry)) v (now (list .entry)) ⌝ }
+{
+    if region.len() != spare.len() {
+        return Verdict::Refused(Refusal::WrongLength);
+    }
+    if v < 3 {
+        return Verdict::Refused(Refusal::NotLawful);
+    }
+    if 32 < v {
+        return Verdict::Refused(Refusal::NotLawful);
+    }
+    if 0x1000_0000 < list.len() {
+        return Verdict::Refused(Refusal::TooManyPairs);
+    }
+    judge_items(v, list)
+}
+
+// The least lg from 2 up at which so many items fit; 27 where it would pass 26.
+fn lg_for(items: u32) -> u8
+    ensures { λ r. ⌜ (r ≡ buildLg items) × (r ≤ 27) ⌝ }
+{
+    let mut lg: u8 = 2;
+    while lg < 27 {
+        if fit(items, lg) {
+            return lg;
+        }
+        lg += 1;
+    }
+    lg
+}
+
+// Where the search for an item ends. It begins at p, the end of a row of items, where the item is above them and its home is among them: its search would pass them all.
+fn locate(slots: &[u32], lg: u8, v: u8, item: u32, p: usize, len: usize, top: u32) -> usize
+    requires { ⌜ Lawful (now slots) lg v (items (now slots) (2 ^ lg)) ⌝ }
+    requires { ⌜ (item < 2 ^ v) × (item ≡ empty → ⊥) × (p < 2 ^ lg) × RunUp (now slots) (2 ^ lg) p len top ⌝ }
+    ensures { λ r. ⌜ (r ≡ spot (now (slots .entry)) lg v item) × (r < 2 ^ lg) ⌝ }
+{
+    let n = size(lg);
+    let h = home_of(lg, v, item);
+    let d = dist(n, h, p);
+    if d <= len {
+        if top < item {
+            return seek(slots, n, item, p);
+        }
+    }
+    seek(slots, n, item, h)
+}
+
+// Stores the items of a list in an empty table, up to the first that is there already, and says how many.
+fn build_into(list: &[u32], slots: &mut [u32], lg: u8, v: u8) -> usize
+    requires { ⌜ (Lawful (now slots) lg v 0) × (4 * length (now list) ≤ 3 * 2 ^ lg) ⌝ }
+    requires { ⌜ ((k : ℕ) → k < length (now list) → (getD (now list) k 0 < 2 ^ v) × (getD (now list) k 0 ≡ empty → ⊥)) ⌝ }
+    ensures { λ r. ⌜ Built (now (list .entry)) (now (slots .entry)) (now (slots .exit)) lg v r ⌝ }
+{
+    let n = size(lg);
+    let mut p = 0;
+    let mut len = 0;
+    let mut top = 0;
+    let mut i = 0;
+    while i < list.len() {
+        let x = list[i];
+        let q = locate(slots, lg, v, x, p, len, top);
+        if slots[q] == x {
+            return i;
+        }
+        slots[q] = x;
+        if top < x {
+            let h = home_of(lg, v, x);
+            len = dist(n, h, q) + 1;
+            p = step(n, q);
+            top = x;
+        }
+        i += 1;
+    }
+    i
+}
+
+// All is judged but whether an item stands twice: refusal 11, or the table.
+fn store_list(v: u8, list: &[u32], region: &mut [u32], spare: &mut [u32], lg: u8) -> TableAnswer
+    requires { ⌜ Buildable v (now list) × (lg ≡ buildLg (length (now list))) × (lg ≤ 26) × (lg < v) × (2 ^ lg ≤ length (now region)) ⌝ }
+    ensures { λ r. ⌜ StoredBy (now (region .entry)) (now (spare .entry)) v (now (list .entry)) (now (region .exit)) (now (spare .exit)) r ⌝ }
+{
+    wipe(region);
+    wipe(spare);
+    let stored = build_into(list, region, lg, v);
+    if stored < list.len() {
+        wipe(region);
+        return TableAnswer::Refused(Refusal::NotAbove {
+            place: stored as u64,
+        });
+    }
+    TableAnswer::Made(PairTable {
+        lg,
+        valid: v,
+        items: stored as u32,
+    })
+}
+
+// What was lent is judged: refusals 13, 5, 11, or the table.
+pub fn build_judged(v: u8, list: &[u32], region: &mut [u32], spare: &mut [u32]) -> TableAnswer
+    requires { ⌜ Buildable v (now list) ⌝ }
+    ensures { λ r. ⌜ BuiltBy (now (region .entry)) (now (spare .entry)) v (now (list .entry)) (now (region .exit)) (now (spare .exit)) r ⌝ }
+{
+    let lg = lg_for(list.len() as u32);
+    match judge_growth(region, lg, v) {
+        Verdict::Refused(why) => TableAnswer::Refused(why),
+        Verdict::Passes => store_list(v, list, region, spare, lg),
+    }
+}
