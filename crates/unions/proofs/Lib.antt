@@ -10,5 +10,4 @@ pub mod ShapeTold
 pub mod SourceTaken
 pub mod SplitTold
 pub mod Stretches
-pub mod Summing
 pub mod Zeroing

@@ -1,21 +1,16 @@
 -- What a split counts, says and writes. Assumes nothing.
 use mathlib.Core.Path.{_≡_, refl, sym, ap, ap₂, _∙_, subst}
-use mathlib.Core.Logic.{⊎-elim}
-use mathlib.Core.Bool.{Bool, true, false, not, _||_, true≢false}
+use mathlib.Core.Bool.{Bool, false, true≢false}
 use mathlib.Core.List.{List, [], _∷_, _++_}
-use Prim.Native.Nat.{ℕ, zero, suc, _+_, _*_, _%_, _^_, _≤_, _<_}
+use Prim.Native.Nat.{ℕ, zero, suc, _*_, _^_, _≤_, _<_}
 use native.Mathlib.Omega.{arith}
 use borrow.Author.Tests.{eq-eqb, lt-ltb, le-ltb}
-use lib.Count.{ones, trailingZeros}
+use lib.Count.{trailingZeros}
 use lib.Dec.{eqb}
-use lib.ListN.{length, getD, drop, length-append}
+use lib.ListN.{length, getD, drop}
 use lib.Pow.{pow-pos, pow-mono}
-use Rattle.laws.specs.Below.{one, sumBelow, countBelow}
 use Rattle.laws.specs.Choose.{choose}
-use Rattle.laws.specs.Columns.{has}
 use Rattle.laws.proofs.Any.{any-of}
-use Rattle.laws.proofs.Ones.{count-same, ones-count}
-use Rattle.laws.proofs.Orders.{lt-or-le}
 use Rattle.refusals.specs.Outcome.{Outcome, accepted, refused, ifAccepted}
 use Rattle.numbers.specs.Numbers.{flavorAt, offsetAt}
 use Rattle.numbers.specs.Told.{flavorNumber}
@@ -23,16 +18,16 @@ use Rattle.numbers.specs.declared.Flavor.{Flavor}
 use Rattle.numbers.proofs.Only.{flavor-number-once}
 use Rattle.pair_lists.specs.Lists.{pairsJudged}
 use Rattle.matrices.specs.Calls.{splitOf, offsetIn, windowIn, listed, splitWindow, splitPairs}
-use Rattle.matrices.specs.Listing.{only, listFrom, inList}
-use Rattle.matrices.specs.Matrix.{at, coupons, reserved}
+use Rattle.matrices.specs.Listing.{inList}
+use Rattle.matrices.specs.Matrix.{coupons, reserved}
 use Rattle.matrices.specs.Parts.{windowed, surprisePairs, firstColumn}
-use Rattle.matrices.specs.Shapes.{rowPairs, windows, Sorted}
+use Rattle.matrices.specs.Shapes.{windows, Sorted}
 use Rattle.matrices.specs.Source.{hasWindow}
 use Rattle.matrices.proofs.Answered.{Split, split-accepted, split-given}
 use Rattle.matrices.proofs.CouponsHeld.{offset-most}
-use Rattle.matrices.proofs.Fits.{count-le, sum-le}
 use Rattle.matrices.proofs.Judged.{judged-sorted, judged-below, judged-lawful}
 use Rattle.matrices.proofs.SplitLists.{split-judged}
+use Rattle.matrices.proofs.Undone.{coupons-most}
 use Rattle.unions.specs.Steps.{ShapeOf, SurpriseSum, splitJudged, roomJudged}
 use Rattle.unions.specs.Told.{toldSplit}
 use Rattle.unions.specs.declared.SplitAnswer.the-variants as split
@@ -40,27 +35,7 @@ use Rattle.unions.specs.declared.Summary.{Summary}
 use Rattle.unions.specs.declared.planning.Shape.{Shape}
 use Rattle.unions.specs.declared.splitting.Surprises.{Surprises}
 
--- ---- a row's surprises are as many as its word has ones
-
-length-from : (a n : ℕ) (p : ℕ → Bool) → length (listFrom a n p) ≡ countBelow n (λ c. p (a + c))
-unfolding listFrom sumBelow
-length-from a zero p = refl
-length-from a (suc n) p = length-append (listFrom a n p) (only (p (a + n)) (a + n)) ∙ ap₂ _+_ (length-from a n p) (length-only (p (a + n)))
-  where
-    length-only : (b : Bool) → length (only b (a + n)) ≡ one b
-    length-only true = refl
-    length-only false = refl
-
-pub row-length : (row w : ℕ) → w < 2 ^ 64 → length (rowPairs row w) ≡ ones w
-row-length row w h =
-    length-from (64 * row) 64 (λ x. has w (x % 64))
-    ∙ count-same 64 _ (has w) (λ c l. let e : (64 * row + c) % 64 ≡ c = omega arith in ap (has w) e) ∙ sym (ones-count 64 w h)
-
 -- ---- numbers fit
-
-pub coupons-most : (m : List ℕ) → coupons m ≤ 64 * length m
-unfolding coupons
-coupons-most m = sum-le (length m) (λ r. countBelow 64 (at m r)) (λ r. count-le 64 (at m r))
 
 sorted-least : (ps : List ℕ) → Sorted ps → (i : ℕ) → i < length ps → i ≤ getD ps i 0
 sorted-least ps s zero h = omega arith

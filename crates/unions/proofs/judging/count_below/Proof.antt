@@ -7,7 +7,7 @@ use denote.Ref.{now}
 use lib.Dec.{ltb}
 use lib.ListN.{length, getD}
 use Rattle.laws.specs.Below.{one, countBelow}
-use Rattle.unions.proofs.Summing.{sum-none, sum-more}
+use Rattle.matrices.proofs.Counting.{sum-none, sum-more}
 use Rattle.unions.proofs.judging.count_below.Statement.{statement}
 use Rattle.unions.proofs.judging.count_below.Tie as tie
 
@@ -18,7 +18,7 @@ abbrev μ-loop : tie.MeasureT-loop
 μ-loop offset pairs sum₀ i₀ sum i = length pairs - i
 
 loop-holds : tie.Need-loop-holds Inv-loop μ-loop
-loop-holds c = let a = c .before .args in (omega arith, sum-none (λ j. one (ltb (getD (now (a .pairs)) j 0 % 64) (a .offset))), omega arith)
+loop-holds c = let a = c .before .args in (omega arith, sym (sum-none (λ j. one (ltb (getD (now (a .pairs)) j 0 % 64) (a .offset)))), omega arith)
 
 mul-one-below : tie.Need-mul-one-below Inv-loop μ-loop
 mul-one-below c = search needs

@@ -7,7 +7,7 @@ use lib.Count.{ones}
 use lib.ListN.{length, getD}
 use Rattle.laws.specs.Below.{sumBelow}
 use Rattle.unions.proofs.EightBytes.{eight-more}
-use Rattle.unions.proofs.Summing.{sum-none}
+use Rattle.matrices.proofs.Counting.{sum-none}
 use Rattle.unions.proofs.judging.count_window.Statement.{statement}
 use Rattle.unions.proofs.judging.count_window.Tie as tie
 
@@ -18,7 +18,7 @@ abbrev μ-loop : tie.MeasureT-loop
 μ-loop window sum₀ i₀ sum i = length window - i
 
 loop-holds : tie.Need-loop-holds Inv-loop μ-loop
-loop-holds c = (omega arith, omega arith, sum-none (λ r. ones (getD (now (c .before .args .window)) r 0)), omega arith)
+loop-holds c = (omega arith, omega arith, sym (sum-none (λ r. ones (getD (now (c .before .args .window)) r 0))), omega arith)
 
 count-eight-requires : tie.Need-count-eight-requires Inv-loop μ-loop
 count-eight-requires c κs = omega (arith, c .loop-test, c .before .loop .inv .1, c .before .before .before .pre .1)

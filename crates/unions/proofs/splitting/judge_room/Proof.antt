@@ -10,9 +10,10 @@ use lib.Pow.{pow-mono}
 use Rattle.refusals.specs.Outcome.{accepted}
 use Rattle.matrices.specs.Matrix.{coupons}
 use Rattle.matrices.proofs.Fits.{coupons-fit}
+use Rattle.matrices.proofs.Undone.{coupons-most}
 use Rattle.unions.specs.Steps.{PlannedBy, ShapeOf, shapeJudged}
 use Rattle.unions.proofs.ShapeTold.{shape-never}
-use Rattle.unions.proofs.SplitTold.{coupons-most, room-short, room-enough, count-fits}
+use Rattle.unions.proofs.SplitTold.{room-short, room-enough, count-fits}
 use borrow.Author.Needs.{needs}
 use Rattle.unions.proofs.splitting.judge_room.Statement.{statement}
 use Rattle.unions.proofs.splitting.judge_room.Tie as tie

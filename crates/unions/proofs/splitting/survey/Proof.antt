@@ -9,9 +9,9 @@ use lib.Count.{ones, ones-le, trailingZeros}
 use lib.ListN.{length, getD, length-append}
 use Rattle.matrices.specs.Parts.{surpriseWord}
 use Rattle.matrices.specs.Shapes.{rowPairs}
+use Rattle.matrices.proofs.Bridges.{row-length}
 use Rattle.matrices.proofs.FirstColumn.{oredTo, ored-none, ored-more, ored-end, surprise-lt}
 use Rattle.matrices.proofs.SplitTurn.{listedTo, to-none, to-more, to-all}
-use Rattle.unions.proofs.SplitTold.{row-length}
 use Rattle.unions.proofs.splitting.survey.Statement.{statement}
 use Rattle.unions.proofs.splitting.survey.Tie as tie
 
