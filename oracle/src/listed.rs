@@ -42,6 +42,10 @@ impl<T> Listed<T> {
         self.length
     }
 
+    pub fn last(&self) -> Option<&T> {
+        self.runs.last().map(|run| &run.value)
+    }
+
     /// One of the values passes the test.
     pub fn any(&self, test: impl Fn(&T) -> bool) -> bool {
         self.runs.iter().any(|run| test(&run.value))

@@ -7,6 +7,7 @@ mod answer;
 mod books;
 mod cases;
 mod compare;
+mod lent_matrices;
 mod lent_tables;
 mod listed;
 mod ours;
@@ -22,6 +23,7 @@ use std::path::PathBuf;
 use crate::cases::RustAnswers;
 use crate::compare::streams;
 use crate::compare::tables;
+use crate::compare::unions;
 
 /// What the calls are tried on besides the chosen inputs.
 struct Effort {
@@ -29,6 +31,7 @@ struct Effort {
     random_book_sets: u64,
     streams: streams::Effort,
     tables: tables::Effort,
+    unions: unions::Effort,
 }
 
 /// Debug is there for the Rust's own checks, which the chosen inputs meet; it is slow, and tries less.
@@ -50,6 +53,13 @@ const EFFORT: Effort = if cfg!(debug_assertions) {
             damaged: 2,
             huge: false,
         },
+        unions: unions::Effort {
+            most: 9,
+            most_grown: 9,
+            unions: 40,
+            step: 9,
+            huge: false,
+        },
     }
 } else {
     Effort {
@@ -67,6 +77,13 @@ const EFFORT: Effort = if cfg!(debug_assertions) {
             most: 12,
             longest_list: 100_000,
             damaged: 10,
+            huge: true,
+        },
+        unions: unions::Effort {
+            most: 14,
+            most_grown: 14,
+            unions: 300,
+            step: 1,
             huge: true,
         },
     }
@@ -94,6 +111,7 @@ fn main() -> Result<()> {
     compare::practice::compare();
     streams::compare(&sets, &mut rust_answers, &EFFORT.streams);
     tables::compare(&rust_answers, &EFFORT.tables);
+    unions::compare(&rust_answers, &EFFORT.unions);
     rust_answers.finish()?;
     if let Some(path) = option("--sample") {
         sample::write(&path, &sets[0])?;

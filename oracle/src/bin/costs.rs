@@ -6,6 +6,8 @@
 
 #[path = "../answer.rs"]
 mod answer;
+#[path = "../lent_matrices.rs"]
+mod lent_matrices;
 #[path = "../lent_tables.rs"]
 mod lent_tables;
 #[path = "../listed.rs"]

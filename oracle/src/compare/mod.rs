@@ -8,6 +8,7 @@ pub mod stand_in;
 pub mod streams;
 pub mod tables;
 pub mod thresholds;
+pub mod unions;
 
 /// The right lengths of every lent book, book set and table, and lengths beside them.
 const LENGTHS: [usize; 14] = [

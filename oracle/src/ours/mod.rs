@@ -4,6 +4,7 @@
 //! call fills its answer whole; it is handed one full of garbage, so that an unwritten part shows.
 
 pub mod tables;
+pub mod unions;
 
 use crate::answer::Answer;
 use crate::plain_reading::books::Coded;

@@ -9,3 +9,4 @@ pub mod pair_lists;
 pub mod practice;
 pub mod streams;
 pub mod tables;
+pub mod unions;

@@ -1,6 +1,7 @@
 //! The Rust's side: the crate as given, with its panics caught.
 
 pub mod tables;
+pub mod unions;
 
 use std::cell::Cell;
 use std::panic::AssertUnwindSafe;

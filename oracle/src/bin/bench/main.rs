@@ -9,6 +9,8 @@ mod answer;
 mod book_table;
 #[path = "../../books/mod.rs"]
 mod books;
+#[path = "../../lent_matrices.rs"]
+mod lent_matrices;
 #[path = "../../lent_tables.rs"]
 mod lent_tables;
 #[path = "../../listed.rs"]

@@ -6,6 +6,7 @@
 //! public, gets one function more, and that hands out everything else.
 
 mod tables;
+mod unions;
 
 use super::Coded;
 use super::install;
