@@ -14,5 +14,9 @@ pub fn run(line: &[u8]) -> Verdict {
     let Verdict::NoSuchCall = streams else {
         return streams;
     };
-    replay_tables::run(line)
+    let tables = replay_tables::run(line);
+    let Verdict::NoSuchCall = tables else {
+        return tables;
+    };
+    replay_unions::run(line)
 }

@@ -7,6 +7,7 @@ mod items;
 pub mod lists;
 pub mod lists_u16;
 pub mod lists_u32;
+pub mod lists_u64;
 pub mod lists_u8;
 mod runs;
 pub mod verdicts;
