@@ -6,6 +6,7 @@ pub mod JudgedSteps
 pub mod MergeTold
 pub mod Only
 pub mod PlanSteps
+pub mod QuietRows
 pub mod ShapeTold
 pub mod SourceTaken
 pub mod SplitTold

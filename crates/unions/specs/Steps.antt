@@ -17,7 +17,7 @@ use Rattle.numbers.specs.Told.{flavorNumber}
 use Rattle.pair_lists.specs.Lists.{pairsJudged}
 use Rattle.matrices.specs.Calls.{wrongRows, offsetIn, windowIn, listed}
 use Rattle.matrices.specs.Matrix.{at, matrixOf, coupons, reserved}
-use Rattle.matrices.specs.Parts.{surprisePairs, firstColumn}
+use Rattle.matrices.specs.Parts.{surpriseWord, surprisePairs, firstColumn}
 use Rattle.matrices.specs.Shapes.{folded, merged, joinedAt}
 use Rattle.matrices.specs.Source.{expanded, hasWindow, held}
 use Rattle.unions.specs.declared.planning.Plan.{Plan}
@@ -100,6 +100,16 @@ unfoldable pub heldJudged : ℕ → ℕ → List ℕ → List ℕ → Outcome
 heldJudged lg c window ps =
     choose (reserved lg (matrixOf (2 ^ lg) (held (2 ^ lg) c window ps))) (refused 10 67108863)
     (choose (not (eqb (coupons (matrixOf (2 ^ lg) (held (2 ^ lg) c window ps))) c)) (refused 17 0) (accepted []))
+
+-- a word that is 0 only if the rows from `from` to `to` hold no surprise
+pub record QuietIf (w : ℕ) (wide : Bool) (o : ℕ) (m : List ℕ) (from to : ℕ) : Type 0 where
+  pub none : w ≡ 0 → (t : ℕ) → from ≤ t → t < to → surpriseWord wide o (getD m t 0) ≡ 0
+
+-- a row that is reached over rows without a surprise
+pub record SkippedTo (wide : Bool) (o : ℕ) (m : List ℕ) (from r : ℕ) : Type 0 where
+  pub least : from ≤ r
+  pub within : r < length m
+  pub quiet : (t : ℕ) → from ≤ t → t < r → surpriseWord wide o (getD m t 0) ≡ 0
 
 -- all surprise words of a matrix ORed, and how many surprises there are
 pub record SurpriseSum (wide : Bool) (o : ℕ) (m : List ℕ) (s : Surprises) : Type 0 where

@@ -11,7 +11,7 @@ ghost use Rattle.laws.specs.Choose.{choose};
 ghost use Rattle.matrices.specs.Matrix.{reserved};
 ghost use Rattle.matrices.specs.Parts.{windowed, surpriseWord, surprisePairs};
 ghost use Rattle.matrices.specs.Shapes.{rowPairs, windows};
-ghost use Rattle.unions.specs.Steps.{SurpriseSum, splitJudged, roomJudged};
+ghost use Rattle.unions.specs.Steps.{QuietIf, SkippedTo, SurpriseSum, splitJudged, roomJudged};
 ghost use Rattle.unions.specs.Told.{toldSplit};
 use super::SplitAnswer;
 use super::Summary;
@@ -38,6 +38,67 @@ fn surprise_word(w: u64, wide: bool, offset: u64) -> u64
     w
 }
 
+// The surprise words of two rows, of four and of eight, ORed.
+fn any_of_two(matrix: &[u64], r: usize, wide: bool, offset: u64) -> u64
+    requires { ⌜ (r + 2 ≤ length (now matrix)) × (offset < 64) ⌝ }
+    ensures { λ w. ⌜ QuietIf w wide offset (now (matrix .entry)) r (r + 2) ⌝ }
+{
+    surprise_word(matrix[r], wide, offset) | surprise_word(matrix[r + 1], wide, offset)
+}
+
+fn any_of_four(matrix: &[u64], r: usize, wide: bool, offset: u64) -> u64
+    requires { ⌜ (r + 4 ≤ length (now matrix)) × (offset < 64) ⌝ }
+    ensures { λ w. ⌜ QuietIf w wide offset (now (matrix .entry)) r (r + 4) ⌝ }
+{
+    any_of_two(matrix, r, wide, offset) | any_of_two(matrix, r + 2, wide, offset)
+}
+
+fn any_of_eight(matrix: &[u64], r: usize, wide: bool, offset: u64) -> u64
+    requires { ⌜ (r + 8 ≤ length (now matrix)) × (offset < 64) ⌝ }
+    ensures { λ w. ⌜ QuietIf w wide offset (now (matrix .entry)) r (r + 8) ⌝ }
+{
+    any_of_four(matrix, r, wide, offset) | any_of_four(matrix, r + 4, wide, offset)
+}
+
+// Eight rows at a time are skipped while they hold no surprise, short of the last row.
+fn skip_eights(matrix: &[u64], from: usize, wide: bool, offset: u64) -> usize
+    requires { ⌜ (from < length (now matrix)) × (length (now matrix) ≤ 67108864) × (offset < 64) ⌝ }
+    ensures { λ r. ⌜ SkippedTo wide offset (now (matrix .entry)) from r ⌝ }
+{
+    let mut r = from;
+    while r + 8 < matrix.len() {
+        if any_of_eight(matrix, r, wide, offset) != 0 {
+            return r;
+        }
+        r += 8;
+    }
+    r
+}
+
+// The same row by row.
+fn skip_rows(matrix: &[u64], from: usize, wide: bool, offset: u64) -> usize
+    requires { ⌜ (from < length (now matrix)) × (length (now matrix) ≤ 67108864) × (offset < 64) ⌝ }
+    ensures { λ r. ⌜ SkippedTo wide offset (now (matrix .entry)) from r ⌝ }
+{
+    let mut r = from;
+    while r + 1 < matrix.len() {
+        if surprise_word(matrix[r], wide, offset) != 0 {
+            return r;
+        }
+        r += 1;
+    }
+    r
+}
+
+// The next row with a surprise, or the last row.
+fn next_surprise(matrix: &[u64], from: usize, wide: bool, offset: u64) -> usize
+    requires { ⌜ (from < length (now matrix)) × (length (now matrix) ≤ 67108864) × (offset < 64) ⌝ }
+    ensures { λ r. ⌜ SkippedTo wide offset (now (matrix .entry)) from r ⌝ }
+{
+    let near = skip_eights(matrix, from, wide, offset);
+    skip_rows(matrix, near, wide, offset)
+}
+
 pub struct Surprises {
     // all surprise words ORed
     pub ored: u64,
@@ -54,10 +115,11 @@ fn survey(matrix: &[u64], wide: bool, offset: u64) -> Surprises
     let mut count: u64 = 0;
     let mut r = 0;
     while r < matrix.len() {
-        let s = surprise_word(matrix[r], wide, offset);
+        let at = next_surprise(matrix, r, wide, offset);
+        let s = surprise_word(matrix[at], wide, offset);
         ored = ored | s;
         count += u64::count_ones(s) as u64;
-        r += 1;
+        r = at + 1;
     }
     Surprises {
         ored: ored,
@@ -147,9 +209,10 @@ fn write_pairs(matrix: &[u64], wide: bool, offset: u64, out: &mut [u32])
     let mut n = 0;
     let mut r = 0;
     while r < matrix.len() {
-        let s = surprise_word(matrix[r], wide, offset);
-        n = list_row(s, r as u64, out, n);
-        r += 1;
+        let at = next_surprise(matrix, r, wide, offset);
+        let s = surprise_word(matrix[at], wide, offset);
+        n = list_row(s, at as u64, out, n);
+        r = at + 1;
     }
 }
 

@@ -1,5 +1,4 @@
 -- `unions::splitting::write_pairs` meets its contract. Assumes nothing.
-use borrow.Author.Needs.{needs}
 use mathlib.Core.Path.{_≡_, sym, ap, ap₂, _∙_, subst}
 use mathlib.Core.List.{List}
 use Prim.Native.Nat.{ℕ, _+_, _*_, _-_, _^_, _≤_, _<_}
@@ -7,6 +6,7 @@ use native.Mathlib.Omega.{arith}
 use denote.Ref.{now}
 use lib.ListN.{length, getD}
 use Rattle.matrices.proofs.SplitTurn.{listedTo, to-none, to-all, over, over-none, list-turn, list-room}
+use Rattle.unions.proofs.QuietRows.{listed-skip}
 use Rattle.unions.proofs.splitting.write_pairs.Statement.{statement}
 use Rattle.unions.proofs.splitting.write_pairs.Tie as tie
 
@@ -23,40 +23,58 @@ loop-holds c =
     let z = sym (to-none (a .wide) (a .offset) (now (a .matrix))) in
     (omega arith, omega arith, ap length z, over-none (now (a .out)) ∙ ap (λ (l : List ℕ). over l (now (a .out))) z)
 
+next-surprise-requires : tie.Need-next-surprise-requires Inv-loop μ-loop
+next-surprise-requires c κs = let st = c .before .before .before .before in (omega (arith, c .loop-test), st .pre .0, st .pre .1)
+
 mul-surprise-word : tie.Need-mul-surprise-word Inv-loop μ-loop
-mul-surprise-word c = search needs
+mul-surprise-word c = omega (arith, c .next-surprise .ensures .within, c .before .before .before .before .before .pre .0)
 
 shared-slice-read-surprise-word : tie.Need-shared-slice-read-surprise-word Inv-loop μ-loop
-shared-slice-read-surprise-word c = search needs
+shared-slice-read-surprise-word c = c .before .next-surprise .ensures .within
 
 surprise-word-requires : tie.Need-surprise-word-requires Inv-loop μ-loop
-surprise-word-requires c κs = c .before .before .before .before .before .pre .1
+surprise-word-requires c κs = c .before .before .before .before .before .before .pre .1
+
+-- the pairs listed so far, as they are at the row that was skipped to
+skipped : (c : tie.After-next-surprise Inv-loop μ-loop)
+    → c .before .before .loop .n ≡ length (listedTo (c .before .before .before .before .before .args .wide) (c .before .before .before .before .before .args .offset) (now (c .before .before .before .before .before .args .matrix)) (c .next-surprise .result))
+skipped c =
+    let l = c .before .before .loop in
+    let a = c .before .before .before .before .before .args in
+    l .inv .2 ∙ sym (ap length (listed-skip (a .wide) (a .offset) (now (a .matrix)) (l .r) (c .next-surprise .result) (c .next-surprise .ensures)))
 
 list-row-requires : tie.Need-list-row-requires Inv-loop μ-loop
 list-row-requires c κs =
-    let l = c .before .before .before .before .loop in
-    let s = c .before .before .before .before .before .before .before in
+    let f = c .before in
+    let k = f .before .before in
+    let l = k .before .before .loop in
+    let s = k .before .before .before .before .before in
     let a = s .args in
-    let g : l .r < length (now (a .matrix)) = omega (arith, c .before .before .before .loop-test) in
-    let fits = list-room (a .wide) (a .offset) (now (a .matrix)) (now (a .out)) (l .r) (l .n) (c .before .surprise-word .result) g (l .inv .2) (c .before .surprise-word .ensures) (s .pre .2) in
-    (omega (arith, s .pre .0), omega (arith, fits, l .inv .1))
+    let fits = list-room (a .wide) (a .offset) (now (a .matrix)) (now (a .out)) (k .next-surprise .result) (l .n) (f .surprise-word .result) (k .next-surprise .ensures .within) (skipped k) (f .surprise-word .ensures) (s .pre .2) in
+    (omega (arith, k .next-surprise .ensures .within, s .pre .0), omega (arith, fits, l .inv .1))
 
 add-r : tie.Need-add-r Inv-loop μ-loop
-add-r c = omega (arith, c .before .before .before .before .before .before .loop-test, c .before .before .before .before .before .before .before .before .before .before .pre .0)
+add-r c =
+    let k = c .before .before .before .before .before .before in
+    omega (arith, k .next-surprise .ensures .within, k .before .before .before .before .before .pre .0)
 
 loop-less : tie.Need-loop-less Inv-loop μ-loop
-loop-less c = omega (arith, c .before .before .before .before .before .before .loop-test)
+loop-less c =
+    let k = c .before .before .before .before .before .before in
+    omega (arith, k .next-surprise .ensures .within, k .next-surprise .ensures .least)
 
 loop-again : tie.Need-loop-again Inv-loop μ-loop
 loop-again c =
     let w = c .before .before .list-row in
     let f = c .before .before .before .before in
-    let l = f .before .before .before .loop in
-    let s = f .before .before .before .before .before .before in
-    let a = s .args in
-    let t = list-turn (a .wide) (a .offset) (now (a .matrix)) (now (a .out)) (l .out) (w .last .1 .1 .0) (l .r) (l .n) (f .surprise-word .result) (w .result) (l .inv .2)
-    (f .surprise-word .ensures) (l .inv .3) (w .ensures .0) (w .ensures .1) in
-    (omega (arith, f .before .before .loop-test), w .kept .1 .1 .0 ∙ l .inv .1, t .0, t .1)
+    let k = f .before .before in
+    let l = k .before .before .loop in
+    let a = k .before .before .before .before .before .args in
+    let m = now (a .matrix) in
+    let at = k .next-surprise .result in
+    let t = list-turn (a .wide) (a .offset) m (now (a .out)) (l .out) (w .last .1 .1 .0) at (l .n) (f .surprise-word .result) (w .result) (skipped k)
+    (f .surprise-word .ensures) (l .inv .3 ∙ ap (λ (x : List ℕ). over x (now (a .out))) (sym (listed-skip (a .wide) (a .offset) m (l .r) at (k .next-surprise .ensures)))) (w .ensures .0) (w .ensures .1) in
+    (omega (arith, k .next-surprise .ensures .within), w .kept .1 .1 .0 ∙ l .inv .1, t .0, t .1)
 
 same-length : tie.Need-same-length Inv-loop μ-loop
 same-length c = c .before .loop .inv .1
@@ -76,6 +94,7 @@ write-pairs-spec =
     Inv-loop
     μ-loop
     loop-holds
+    next-surprise-requires
     mul-surprise-word
     shared-slice-read-surprise-word
     surprise-word-requires
