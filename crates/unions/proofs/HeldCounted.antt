@@ -1,5 +1,5 @@
 -- The late 10 and the coupons held, as they are judged: without a matrix. Assumes nothing.
-use mathlib.Core.Path.{_≡_, refl, sym, ap, ap₂, _∙_, subst}
+use mathlib.Core.Path.{_≡_, refl, sym, ap, _∙_}
 use mathlib.Core.Logic.{⊎-elim}
 use mathlib.Core.Bool.{Bool, true, false, _&&_, true≢false}
 use mathlib.Core.List.{List, []}
@@ -9,14 +9,13 @@ use borrow.Author.Tests.{lt-ltb, le-ltb, le-leb, lt-leb, eq-eqb}
 use lib.Count.{ones}
 use lib.Dec.{eqb, leb, ltb}
 use lib.ListN.{length, getD}
-use Rattle.laws.specs.Below.{one, sumBelow, countBelow, anyBelow}
+use Rattle.laws.specs.Below.{one, sumBelow, countBelow}
 use Rattle.laws.specs.Columns.{has}
 use Rattle.laws.proofs.Any.{any-of}
 use Rattle.laws.proofs.Orders.{lt-or-le}
 use Rattle.laws.proofs.Sums.{sum-add, sum-ones}
 use Rattle.laws.proofs.Truths.{never-true}
 use Rattle.refusals.specs.Outcome.{accepted}
-use Rattle.numbers.specs.Numbers.{offsetAt}
 use Rattle.pair_lists.specs.Lists.{pairsJudged}
 use Rattle.matrices.specs.Listing.{inList}
 use Rattle.matrices.specs.Matrix.{matrixOf, coupons, reserved, inWindow}

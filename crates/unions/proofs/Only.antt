@@ -1,10 +1,8 @@
 -- No second outcome satisfies what the public calls promise. Assumes nothing.
 use mathlib.Core.Path.{_≡_, refl, sym, ap, ap₂, _∙_}
-use mathlib.Core.List.{List, [], _∷_}
+use mathlib.Core.List.{List, []}
 use Prim.Native.Nat.{ℕ}
-use Rattle.refusals.specs.Outcome.{accepted}
 use Rattle.refusals.proofs.Only.{told-once, never-accepted}
-use Rattle.numbers.specs.Told.{flavorNumber}
 use Rattle.numbers.specs.declared.Flavor.{Flavor}
 use Rattle.numbers.proofs.Only.{flavor-number-once}
 use Rattle.matrices.specs.Calls.{countOf, splitOf, splitWindow, splitPairs, expandOf, expandedMatrix, newUnionOf, newMatrix, mergeOf, mergedMatrix}

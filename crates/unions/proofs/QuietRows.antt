@@ -1,12 +1,12 @@
 -- Rows without a surprise, passed over. Assumes nothing.
-use mathlib.Core.Path.{_≡_, refl, sym, ap, ap₂, _∙_, subst}
+use mathlib.Core.Path.{_≡_, refl, sym, ap, _∙_, subst}
 use mathlib.Core.Logic.{⊎-elim}
 use mathlib.Core.Bool.{Bool}
 use mathlib.Core.List.{List}
 use Prim.Native.Nat.{ℕ, zero, suc, _+_, _-_, _^_, _≤_, _<_}
 use native.Mathlib.Nat.{add-zero}
 use native.Mathlib.Omega.{arith}
-use lib.Bits.{bitOr, bitAnd, or-add-and, or-zero-r, and-le-l, and-le-r}
+use lib.Bits.{bitOr, or-add-and, or-zero-r, and-le-l, and-le-r}
 use lib.ListN.{length, getD}
 use Rattle.laws.proofs.Orders.{lt-or-le}
 use Rattle.matrices.specs.Parts.{surpriseWord}

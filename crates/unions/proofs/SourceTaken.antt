@@ -1,13 +1,12 @@
 -- What the code makes of a source that is judged is what the definitions say. Assumes nothing.
-use mathlib.Core.Path.{_≡_, refl, sym, ap, ap₂, _∙_, subst}
+use mathlib.Core.Path.{_≡_, refl, sym, ap, ap₂, _∙_}
 use mathlib.Core.Logic.{⊎-elim}
 use mathlib.Core.Bool.{Bool, true, false}
 use mathlib.Core.List.{List, []}
-use Prim.Native.Nat.{ℕ, _*_, _+_, _^_, _≤_, _<_, min}
+use Prim.Native.Nat.{ℕ, _^_, _≤_, _<_, min}
 use native.Mathlib.Nat.{min-eq-left, min-eq-right}
 use native.Mathlib.Omega.{arith}
 use borrow.Author.Tests.{lt-ltb, le-ltb}
-use lib.Dec.{ltb}
 use lib.ListN.{length, getD, replicate, length-replicate}
 use lib.Pow.{pow-pos}
 use Rattle.laws.specs.Choose.{choose}
@@ -16,7 +15,6 @@ use Rattle.refusals.specs.Outcome.{accepted}
 use Rattle.numbers.specs.Numbers.{offsetAt}
 use Rattle.pair_lists.specs.Lists.{pairsJudged}
 use Rattle.matrices.specs.Calls.{mergedAt}
-use Rattle.matrices.specs.Listing.{inList}
 use Rattle.matrices.specs.Matrix.{matrixOf}
 use Rattle.matrices.specs.Shapes.{merged, folded}
 use Rattle.matrices.specs.Source.{expanded, hasWindow, held}

@@ -1,5 +1,4 @@
 -- Document 01's number and values for each answer. Assumes nothing.
-use Prim.Native.Nat.{ℕ}
 use mathlib.Core.List.{[], _∷_}
 use Rattle.refusals.specs.Outcome.{Outcome, accepted}
 use Rattle.refusals.specs.Told.{told}

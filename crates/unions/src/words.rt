@@ -2,7 +2,7 @@
 // After src/cpc/union.rs and src/cpc/sketch.rs of the Rust crate datasketches 0.5.0 (Apache-2.0); changed: its masks and shifts, each a function with a contract.
 ghost use mathlib.Core.Path.{_≡_};
 ghost use mathlib.Core.Bool.{not, _||_, _&&_};
-ghost use Prim.Native.Nat.{_+_, _-_, _%_, _^_, _≤_, _<_};
+ghost use Prim.Native.Nat.{_-_, _%_, _^_, _≤_, _<_};
 ghost use lib.Dec.{eqb, leb, ltb};
 ghost use Rattle.laws.specs.Columns.{has, wordOf, differs};
 ghost use Rattle.matrices.specs.Matrix.{inWindow};

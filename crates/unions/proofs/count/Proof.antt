@@ -1,15 +1,12 @@
 -- `unions::count` meets its contract. Assumes nothing.
-use mathlib.Core.Path.{_≡_, sym, ap, _∙_, subst}
-use mathlib.Core.Bool.{true, false}
-use mathlib.Core.List.{[], _∷_}
-use Prim.Native.Nat.{ℕ, _^_, _<_}
+use mathlib.Core.Path.{_≡_, sym, _∙_}
+use mathlib.Core.Bool.{false}
 use native.Mathlib.Omega.{arith}
 use denote.Ref.{now}
 use borrow.Author.Tests.{eq-eqb, ne-eqb}
-use Rattle.refusals.specs.Outcome.{accepted}
 use Rattle.numbers.proofs.RowsTold.{RowsAt, matched-rows, matched-refused}
 use Rattle.matrices.specs.Calls.{countOf}
-use Rattle.matrices.specs.Matrix.{coupons, reserved}
+use Rattle.matrices.specs.Matrix.{reserved}
 use Rattle.matrices.proofs.Fits.{coupons-fit}
 use borrow.Author.Needs.{needs}
 use Rattle.unions.proofs.count.Statement.{statement}

@@ -1,20 +1,19 @@
 -- `unions::expand` meets its contract. Assumes nothing.
 use mathlib.Core.Path.{_≡_, sym, ap, _∙_, subst}
 use mathlib.Core.Bool.{Bool}
-use mathlib.Core.List.{List, []}
-use Prim.Native.Nat.{ℕ, _^_, _≤_}
+use mathlib.Core.List.{[]}
+use Prim.Native.Nat.{_^_, _≤_}
 use native.Mathlib.Omega.{arith}
 use denote.Ref.{now}
 use lib.ListN.{length, replicate}
 use lib.Pow.{pow-mono}
-use Rattle.refusals.specs.Outcome.{Outcome, accepted, ifAccepted, andThen}
+use Rattle.refusals.specs.Outcome.{Outcome, accepted, ifAccepted}
 use Rattle.matrices.specs.Calls.{expandOf}
 use Rattle.matrices.specs.Matrix.{matrixOf}
-use Rattle.matrices.specs.Source.{sourceJudged, hasWindow, held}
+use Rattle.matrices.specs.Source.{hasWindow, held}
 use Rattle.matrices.proofs.Answered.{Expanded, expand-accepted}
 use Rattle.matrices.proofs.Judged.{judged-sorted}
 use Rattle.unions.specs.Steps.{PlannedBy, ShapeOf, sourceMerged}
-use Rattle.unions.specs.declared.planning.Plan.{Plan}
 use Rattle.unions.proofs.Answered.{kept-as}
 use Rattle.unions.proofs.PlanSteps.{expand-chain}
 use Rattle.unions.proofs.SourceTaken.{source-filled, window-short}

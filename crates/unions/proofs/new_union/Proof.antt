@@ -1,9 +1,7 @@
 -- `unions::new_union` meets its contract. Assumes nothing.
-use mathlib.Core.Path.{_≡_, sym, ap, _∙_}
-use native.Mathlib.Omega.{arith}
 use denote.Ref.{now}
 use borrow.Author.Tests.{eq-eqb, ne-eqb}
-use Rattle.numbers.proofs.RowsTold.{RowsAt, matched-rows, rows-refused, matched-refused}
+use Rattle.numbers.proofs.RowsTold.{RowsAt, matched-rows, matched-refused}
 use Rattle.matrices.specs.Calls.{newUnionOf}
 use Rattle.unions.proofs.Answered.{kept-as}
 use borrow.Author.Needs.{needs}

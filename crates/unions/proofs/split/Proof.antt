@@ -1,9 +1,8 @@
 -- `unions::split` meets its contract. Assumes nothing.
-use mathlib.Core.Path.{_≡_, sym, ap, _∙_, subst}
+use mathlib.Core.Path.{_≡_, sym, ap, _∙_}
 use Prim.Native.Nat.{_^_, _≤_}
 use native.Mathlib.Omega.{arith}
 use denote.Ref.{now}
-use lib.ListN.{length}
 use lib.Pow.{pow-mono}
 use Rattle.matrices.specs.Calls.{splitOf}
 use Rattle.matrices.proofs.Answered.{inside-most}

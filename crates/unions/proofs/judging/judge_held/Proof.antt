@@ -1,14 +1,12 @@
 -- `unions::judging::judge_held` meets its contract. Assumes nothing.
 use mathlib.Core.Path.{_≡_, sym, ap, _∙_}
 use mathlib.Core.Bool.{false}
-use Prim.Native.Nat.{ℕ, _+_, _*_, _%_, _^_, _≤_, _<_}
+use Prim.Native.Nat.{ℕ, _+_, _*_, _%_, _^_, _≤_}
 use native.Mathlib.Nat.{mul-le-mul}
 use native.Mathlib.Omega.{arith}
 use denote.Ref.{now}
-use lib.Dec.{ltb}
-use lib.ListN.{length, getD}
+use lib.ListN.{length}
 use lib.Pow.{pow-mono}
-use Rattle.laws.specs.Below.{countBelow}
 use Rattle.matrices.specs.Matrix.{matrixOf, coupons, reserved}
 use Rattle.matrices.specs.Source.{held}
 use Rattle.unions.proofs.EightBytes.{eights}

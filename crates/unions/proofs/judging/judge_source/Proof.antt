@@ -1,8 +1,8 @@
 -- `unions::judging::judge_source` meets its contract. Assumes nothing.
 use mathlib.Core.Path.{_≡_, sym, ap, _∙_}
-use mathlib.Core.Bool.{Bool, true, false}
+use mathlib.Core.Bool.{Bool, false}
 use mathlib.Core.List.{[]}
-use Prim.Native.Nat.{ℕ, _^_}
+use Prim.Native.Nat.{_^_}
 use native.Mathlib.Omega.{arith}
 use denote.Ref.{now}
 use Rattle.laws.specs.Choose.{choose}
@@ -12,7 +12,6 @@ use Rattle.pair_lists.specs.Told.{toldPairs}
 use Rattle.matrices.specs.Matrix.{matrixOf, reserved, coupons}
 use Rattle.matrices.specs.Source.{held, hasWindow}
 use Rattle.matrices.proofs.LateReserved.{late-none}
-use Rattle.unions.specs.Told.{toldJudged}
 use Rattle.unions.proofs.HeldCounted.{listed-count}
 use Rattle.unions.proofs.JudgedSteps.{pairs-told, source-refused, source-wide, source-listed, held-wrong, held-right}
 use borrow.Author.Needs.{needs}

@@ -4,7 +4,6 @@ use mathlib.Core.List.{[]}
 use denote.Ref.{now}
 use Rattle.refusals.specs.Outcome.{accepted}
 use Rattle.matrices.specs.Source.{windowJudged, columnsJudged}
-use Rattle.unions.specs.Steps.{heldJudged}
 use Rattle.unions.specs.Told.{toldJudged}
 use Rattle.unions.proofs.JudgedSteps.{first-refuses, second-refuses, both-accept}
 use borrow.Author.Needs.{needs}

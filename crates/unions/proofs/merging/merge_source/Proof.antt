@@ -1,5 +1,5 @@
 -- `unions::merging::merge_source` meets its contract. Assumes nothing.
-use mathlib.Core.Path.{_≡_, sym, ap, _∙_}
+use mathlib.Core.Path.{sym, ap, _∙_}
 use mathlib.Core.Bool.{Bool}
 use denote.Ref.{now}
 use Rattle.unions.specs.Steps.{sourceMerged}

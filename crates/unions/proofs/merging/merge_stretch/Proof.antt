@@ -6,11 +6,10 @@ use mathlib.Core.List.{List}
 use Prim.Native.Nat.{ℕ, _+_, _-_, _%_, _^_, _≤_, _<_}
 use native.Mathlib.Omega.{arith}
 use denote.Ref.{now}
-use lib.ListN.{length, getD, set}
+use lib.ListN.{length, set}
 use lib.Pow.{pow-pos, pow-mono}
 use Rattle.laws.specs.Columns.{has, wordOf}
 use Rattle.matrices.specs.Matrix.{at}
-use Rattle.matrices.specs.Shapes.{joinedAt}
 use Rattle.unions.specs.Steps.{Stretched}
 use Rattle.unions.proofs.Stretches.{falls-next, stretch-start, stretch-turn}
 use Rattle.unions.proofs.merging.merge_stretch.Statement.{statement}

@@ -1,5 +1,5 @@
 -- `unions::merging::stretch_end` meets its contract. Assumes nothing.
-use Prim.Native.Nat.{ℕ, _*_, _/_, _≤_, _<_}
+use Prim.Native.Nat.{ℕ, _≤_, _<_}
 use mathlib.Core.Logic.{⊎-elim}
 use mathlib.Core.Path.{_≡_, subst}
 use native.Mathlib.Nat.{eq-or-lt-of-le}

@@ -1,11 +1,10 @@
 -- `unions::merging::take_in` meets its contract. Assumes nothing.
-use mathlib.Core.Path.{_≡_, ap, ap₂, _∙_}
+use mathlib.Core.Path.{ap₂, _∙_}
 use mathlib.Core.List.{List}
 use Prim.Native.Nat.{ℕ, _^_, _≤_}
 use native.Mathlib.Nat.{min-le-left}
 use native.Mathlib.Omega.{arith}
 use denote.Ref.{now}
-use lib.ListN.{length}
 use lib.Pow.{pow-mono}
 use Rattle.unions.specs.Steps.{sourceMerged}
 use borrow.Author.Needs.{needs}

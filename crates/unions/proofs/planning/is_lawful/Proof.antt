@@ -1,7 +1,6 @@
 -- `unions::planning::is_lawful` meets its contract. Assumes nothing.
-use mathlib.Core.Path.{_≡_, sym, ap, ap₂, _∙_}
+use mathlib.Core.Path.{sym, ap, ap₂, _∙_}
 use mathlib.Core.Bool.{Bool, not, _&&_}
-use native.Mathlib.Omega.{arith}
 use denote.Ref.{now}
 use borrow.Author.Tests.{le-leb, lt-leb, not-true, not-false}
 use Rattle.matrices.specs.Calls.{lawfulUnion}

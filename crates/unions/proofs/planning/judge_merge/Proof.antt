@@ -1,14 +1,14 @@
 -- `unions::planning::judge_merge` meets its contract. Assumes nothing.
 use mathlib.Core.Path.{_≡_, sym, ap, _∙_, subst}
-use mathlib.Core.Bool.{Bool, true, not}
+use mathlib.Core.Bool.{Bool}
 use mathlib.Core.List.{[]}
-use Prim.Native.Nat.{ℕ, _^_}
+use Prim.Native.Nat.{_^_}
 use denote.Ref.{now}
 use borrow.Author.Tests.{not-true, not-false}
 use lib.ListN.{length}
 use Rattle.laws.specs.Choose.{choose}
-use Rattle.refusals.specs.Outcome.{Outcome, accepted, andThen}
-use Rattle.matrices.specs.Calls.{lawfulUnion, mergeJudged}
+use Rattle.refusals.specs.Outcome.{Outcome, accepted}
+use Rattle.matrices.specs.Calls.{mergeJudged}
 use Rattle.unions.specs.Steps.{PlannedBy, ShapeOf, lentJudged}
 use Rattle.unions.specs.Told.{toldJudged}
 use Rattle.unions.proofs.Answered.{through}

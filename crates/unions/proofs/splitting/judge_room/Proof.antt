@@ -1,14 +1,11 @@
 -- `unions::splitting::judge_room` meets its contract. Assumes nothing.
-use mathlib.Core.Path.{_≡_, sym, ap, ap₂, _∙_, subst}
-use mathlib.Core.List.{[]}
-use Prim.Native.Nat.{ℕ, _*_, _^_, _≤_, _<_}
+use mathlib.Core.Path.{subst}
+use Prim.Native.Nat.{_*_, _^_, _≤_}
 use native.Mathlib.Omega.{arith}
 use denote.Ref.{now}
 use lib.Count.{trailing-le}
 use lib.ListN.{length}
 use lib.Pow.{pow-mono}
-use Rattle.refusals.specs.Outcome.{accepted}
-use Rattle.matrices.specs.Matrix.{coupons}
 use Rattle.matrices.proofs.Fits.{coupons-fit}
 use Rattle.matrices.proofs.Undone.{coupons-most}
 use Rattle.unions.specs.Steps.{PlannedBy, ShapeOf, shapeJudged}

@@ -1,5 +1,5 @@
 -- `unions::splitting::judge_split` meets its contract. Assumes nothing.
-use mathlib.Core.Path.{_≡_, sym, ap, ap₂, _∙_}
+use mathlib.Core.Path.{_≡_, sym, _∙_}
 use mathlib.Core.Bool.{false}
 use denote.Ref.{now}
 use borrow.Author.Tests.{eq-eqb, ne-eqb}

@@ -1,10 +1,10 @@
 -- `unions::splitting::write_pairs` meets its contract. Assumes nothing.
-use mathlib.Core.Path.{_≡_, sym, ap, ap₂, _∙_, subst}
+use mathlib.Core.Path.{_≡_, sym, ap, _∙_}
 use mathlib.Core.List.{List}
-use Prim.Native.Nat.{ℕ, _+_, _*_, _-_, _^_, _≤_, _<_}
+use Prim.Native.Nat.{ℕ, _-_, _≤_}
 use native.Mathlib.Omega.{arith}
 use denote.Ref.{now}
-use lib.ListN.{length, getD}
+use lib.ListN.{length}
 use Rattle.matrices.proofs.SplitTurn.{listedTo, to-none, to-all, over, over-none, list-turn, list-room}
 use Rattle.unions.proofs.QuietRows.{listed-skip}
 use Rattle.unions.proofs.splitting.write_pairs.Statement.{statement}

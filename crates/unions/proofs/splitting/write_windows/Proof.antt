@@ -2,11 +2,10 @@
 use borrow.Author.Needs.{needs}
 use mathlib.Core.Path.{_≡_, sym, ap, ap₂, _∙_}
 use mathlib.Core.List.{List}
-use Prim.Native.Nat.{ℕ, _+_, _-_, _≤_, _<_}
+use Prim.Native.Nat.{ℕ, _-_, _≤_, _<_}
 use native.Mathlib.Omega.{arith}
 use denote.Ref.{now}
-use lib.ListN.{length, getD, set, length-set}
-use Rattle.matrices.specs.Parts.{windowAt}
+use lib.ListN.{length, set, length-set}
 use Rattle.matrices.specs.Shapes.{windows}
 use Rattle.matrices.proofs.Rewriting.{rewritten, rewritten-start}
 use Rattle.matrices.proofs.SplitTurn.{window-turn, window-all}

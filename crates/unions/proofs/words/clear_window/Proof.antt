@@ -3,10 +3,9 @@ use borrow.Author.Needs.{needs}
 use Rattle.laws.proofs.Columns.{has-and, has-not, has-low}
 use Rattle.matrices.proofs.Windows.{has-window}
 use Rattle.laws.specs.Columns.{has}
-use mathlib.Core.Path.{_≡_, _∙_, ap}
-use mathlib.Core.Bool.{Bool, not, _||_, _&&_}
-use Prim.Native.Nat.{ℕ, _*_, _%_, _^_, _-_}
-use native.Mathlib.Omega.{arith}
+use mathlib.Core.Path.{_∙_, ap}
+use mathlib.Core.Bool.{Bool, not, _&&_}
+use Prim.Native.Nat.{_*_, _%_, _^_, _-_}
 use native.Mathlib.Nat.{mod-lt}
 use lib.Pow.{pow-pos}
 use Rattle.laws.proofs.Words.{word-is}

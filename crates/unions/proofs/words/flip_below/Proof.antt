@@ -3,10 +3,8 @@ use borrow.Author.Needs.{needs}
 use Rattle.laws.proofs.Columns.{has-xor, has-ones}
 use Rattle.laws.proofs.Shifts.{one-shl}
 use Rattle.laws.specs.Columns.{has, differs}
-use mathlib.Core.Path.{_≡_, _∙_, ap}
-use mathlib.Core.Bool.{Bool, not, _||_, _&&_}
-use Prim.Native.Nat.{ℕ, _*_, _%_, _^_, _-_}
-use native.Mathlib.Omega.{arith}
+use mathlib.Core.Path.{_∙_, ap}
+use Prim.Native.Nat.{ℕ, _^_, _-_}
 use lib.Pow.{pow-pos}
 use Rattle.laws.proofs.Words.{word-is}
 use lib.Bits.{bitXor, xor-lt}

@@ -1,11 +1,11 @@
 -- `unions::words::row_in` meets its contract. Assumes nothing.
 use mathlib.Core.Path.{ap, _∙_}
-use Prim.Native.Nat.{ℕ, _-_, _^_, _%_, _<_}
+use Prim.Native.Nat.{ℕ, _-_, _^_, _<_}
 use native.Mathlib.Nat.{mod-lt}
 use native.Mathlib.Omega.{arith}
 use lib.Bits.{bitAnd, and-mask}
 use lib.Pow.{pow-pos}
-use mathlib.Core.Path.{_≡_, subst, sym}
+use mathlib.Core.Path.{subst, sym}
 use Rattle.laws.proofs.Shifts.{one-shl}
 use borrow.Author.Needs.{needs}
 use Rattle.unions.proofs.words.row_in.Statement.{statement}

@@ -1,12 +1,8 @@
 -- `unions::words::window_of` meets its contract. Assumes nothing.
 use borrow.Author.Needs.{needs}
-use Rattle.laws.proofs.Columns.{has-mod, has-shr}
-use Rattle.laws.specs.Columns.{has}
-use mathlib.Core.Path.{_≡_, _∙_, ap}
-use mathlib.Core.Bool.{Bool, not, _||_, _&&_}
-use Prim.Native.Nat.{ℕ, _*_, _%_, _^_, _-_}
-use native.Mathlib.Omega.{arith}
-use lib.Dec.{ltb}
+use Rattle.laws.proofs.Columns.{has-shr}
+use mathlib.Core.Path.{_∙_}
+use Prim.Native.Nat.{_^_, _-_}
 use Rattle.laws.proofs.Words.{word-is}
 use lib.Pow.{pow-pos}
 use native.Mathlib.Nat.{mod-lt}

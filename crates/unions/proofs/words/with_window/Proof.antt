@@ -2,10 +2,9 @@
 use borrow.Author.Needs.{needs}
 use Rattle.laws.proofs.Columns.{has-or, has-low, has-shl}
 use Rattle.laws.specs.Columns.{has}
-use mathlib.Core.Path.{_≡_, _∙_, ap}
-use mathlib.Core.Bool.{Bool, not, _||_, _&&_}
-use Prim.Native.Nat.{ℕ, _*_, _%_, _^_, _-_}
-use native.Mathlib.Omega.{arith}
+use mathlib.Core.Path.{_∙_, ap}
+use mathlib.Core.Bool.{Bool, _||_}
+use Prim.Native.Nat.{_*_, _%_, _^_, _-_}
 use Rattle.laws.proofs.Words.{word-is}
 use lib.Bits.{or-lt}
 use lib.Pow.{pow-pos}
