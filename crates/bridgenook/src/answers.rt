@@ -1,6 +1,5 @@
 // How an answer becomes a result and eight numbers, and how a fixed list is handed out.
 ghost use mathlib.Core.Path.{_≡_};
-ghost use mathlib.Core.List.{[], _∷_};
 ghost use lib.ListN.{length};
 ghost use Rattle.refusals.specs.Outcome.{accepted};
 ghost use Rattle.refusals.specs.Told.{told};
@@ -15,11 +14,20 @@ pub fn refuse(why: Refusal, answer: &mut [u64; 8]) -> u32
     numbers.0
 }
 
-// A call with no value, or fewer than two, hands in zeros for the rest.
-pub fn accept(first: u64, second: u64, answer: &mut [u64; 8]) -> u32
-    ensures { λ r. ⌜ Says (accepted (first ∷ second ∷ [])) r (now (answer .exit)) ⌝ }
+// A call with fewer than six values hands in zeros for the rest.
+pub fn accept(values: [u64; 6], answer: &mut [u64; 8]) -> u32
+    ensures { λ r. ⌜ Says (accepted values) r (now (answer .exit)) ⌝ }
 {
-    *answer = [0, 0, first, second, 0, 0, 0, 0];
+    *answer = [
+        0,
+        0,
+        values[0],
+        values[1],
+        values[2],
+        values[3],
+        values[4],
+        values[5],
+    ];
     0
 }
 
@@ -41,5 +49,5 @@ pub fn hand_out(list: &[u16], out: &mut [u16], answer: &mut [u64; 8]) -> u32
         return refuse(Refusal::WrongLength, answer);
     }
     copy(list, out);
-    accept(0, 0, answer)
+    accept([0, 0, 0, 0, 0, 0], answer)
 }

@@ -12,7 +12,7 @@ fn say_check(check: CheckAnswer, answer: &mut [u64; 8]) -> u32
     ensures { λ r. ⌜ Says (toldCheck check) r (now (answer .exit)) ⌝ }
 {
     match check {
-        CheckAnswer::Passes => answers::accept(0, 0, answer),
+        CheckAnswer::Passes => answers::accept([0, 0, 0, 0, 0, 0], answer),
         CheckAnswer::Refused(why) => answers::refuse(why, answer),
     }
 }
@@ -48,7 +48,7 @@ pub extern "C" fn bridgenook_pick(set: &[u16], phase: u8, answer: &mut [u64; 8])
     ensures { λ r. ⌜ Says (pickOf (now (set .entry)) phase) r (now (answer .exit)) ⌝ }
 {
     match books::pick_place(set, phase) {
-        PickAnswer::At(start) => answers::accept(start as u64, 256, answer),
+        PickAnswer::At(start) => answers::accept([start as u64, 256, 0, 0, 0, 0], answer),
         PickAnswer::Refused(why) => answers::refuse(why, answer),
     }
 }

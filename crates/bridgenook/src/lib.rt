@@ -5,4 +5,6 @@ pub mod book_calls;
 pub mod number_calls;
 pub mod practice_books;
 pub mod stream_calls;
+pub mod table_calls;
+pub mod union_calls;
 pub mod unit_counts;

@@ -15,13 +15,13 @@ fn say_number(number: NumberAnswer, answer: &mut [u64; 8]) -> u32
     ensures { λ r. ⌜ Says (toldNumber number) r (now (answer .exit)) ⌝ }
 {
     match number {
-        NumberAnswer::Given(value) => answers::accept(value as u64, 0, answer),
+        NumberAnswer::Given(value) => answers::accept([value as u64, 0, 0, 0, 0, 0], answer),
         NumberAnswer::Refused(why) => answers::refuse(why, answer),
     }
 }
 
 // The flavors in their order.
-fn flavor_number(flavor: Flavor) -> u64
+pub fn flavor_number(flavor: Flavor) -> u64
     ensures { λ r. ⌜ r ≡ flavorNumber flavor ⌝ }
 {
     match flavor {
@@ -38,7 +38,7 @@ pub extern "C" fn bridgenook_rows(lg: u8, answer: &mut [u64; 8]) -> u32
     ensures { λ r. ⌜ Says (rowsOf lg) r (now (answer .exit)) ⌝ }
 {
     match numbers::rows(lg) {
-        RowsAnswer::Rows(k) => answers::accept(k, 0, answer),
+        RowsAnswer::Rows(k) => answers::accept([k, 0, 0, 0, 0, 0], answer),
         RowsAnswer::Refused(why) => answers::refuse(why, answer),
     }
 }
@@ -48,7 +48,10 @@ pub extern "C" fn bridgenook_determine_flavor(lg: u8, coupons: u32, answer: &mut
     ensures { λ r. ⌜ Says (flavorOf lg coupons) r (now (answer .exit)) ⌝ }
 {
     match numbers::determine_flavor(lg, coupons) {
-        FlavorAnswer::Flavored(flavor) => answers::accept(flavor_number(flavor), 0, answer),
+        FlavorAnswer::Flavored(flavor) => answers::accept(
+            [flavor_number(flavor), 0, 0, 0, 0, 0],
+            answer,
+        ),
         FlavorAnswer::Refused(why) => answers::refuse(why, answer),
     }
 }
@@ -87,7 +90,7 @@ pub extern "C" fn bridgenook_most_bits(lg: u8, pairs: u32, answer: &mut [u64; 8]
     ensures { λ r. ⌜ Says (mostBitsOf lg pairs) r (now (answer .exit)) ⌝ }
 {
     match numbers::most_bits(lg, pairs) {
-        MostAnswer::AtMost(bits, words) => answers::accept(bits.0, words.0, answer),
+        MostAnswer::AtMost(bits, words) => answers::accept([bits.0, words.0, 0, 0, 0, 0], answer),
         MostAnswer::Refused(why) => answers::refuse(why, answer),
     }
 }

@@ -14,7 +14,7 @@ pub extern "C" fn bridgenook_judge_pairs(lg: u8, pairs: &[u32], answer: &mut [u6
     ensures { λ r. ⌜ Says (judgePairsOf lg (now (pairs .entry))) r (now (answer .exit)) ⌝ }
 {
     match pair_lists::judge_pairs(lg, pairs) {
-        PairsAnswer::Lawful => answers::accept(0, 0, answer),
+        PairsAnswer::Lawful => answers::accept([0, 0, 0, 0, 0, 0], answer),
         PairsAnswer::Refused(why) => answers::refuse(why, answer),
     }
 }
@@ -23,7 +23,7 @@ fn say_write(write: WriteAnswer, answer: &mut [u64; 8]) -> u32
     ensures { λ r. ⌜ Says (toldWrite write) r (now (answer .exit)) ⌝ }
 {
     match write {
-        WriteAnswer::Written(bits, words) => answers::accept(bits.0, words.0, answer),
+        WriteAnswer::Written(bits, words) => answers::accept([bits.0, words.0, 0, 0, 0, 0], answer),
         WriteAnswer::Refused(why) => answers::refuse(why, answer),
     }
 }
@@ -32,7 +32,7 @@ fn say_read(read: ReadAnswer, answer: &mut [u64; 8]) -> u32
     ensures { λ r. ⌜ Says (toldRead read) r (now (answer .exit)) ⌝ }
 {
     match read {
-        ReadAnswer::Read => answers::accept(0, 0, answer),
+        ReadAnswer::Read => answers::accept([0, 0, 0, 0, 0, 0], answer),
         ReadAnswer::Refused(why) => answers::refuse(why, answer),
     }
 }

@@ -13,7 +13,7 @@ pub extern "C" fn bridgenook_words_for(bits: u64, answer: &mut [u64; 8]) -> u32
     ensures { λ r. ⌜ Says (accepted (wordsFor bits ∷ [])) r (now (answer .exit)) ⌝ }
 {
     let words = units::words_for(Bits(bits));
-    answers::accept(words.0, 0, answer)
+    answers::accept([words.0, 0, 0, 0, 0, 0], answer)
 }
 
 #[no_mangle]
@@ -21,5 +21,5 @@ pub extern "C" fn bridgenook_bits_in(words: u64, answer: &mut [u64; 8]) -> u32
     ensures { λ r. ⌜ Says (accepted (bitsIn words ∷ [])) r (now (answer .exit)) ⌝ }
 {
     let bits = units::bits_in(Words(words));
-    answers::accept(bits.0, 0, answer)
+    answers::accept([bits.0, 0, 0, 0, 0, 0], answer)
 }

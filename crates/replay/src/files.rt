@@ -1,10 +1,11 @@
 // A file of stored cases: read whole, then line by line.
 use super::calls;
-use super::runs::Filled;
-use super::verdicts;
-use super::verdicts::Verdict;
-use super::words;
 use libc::STDOUT_FILENO;
+use stored_cases::lists::Filled;
+use stored_cases::lists_u8;
+use stored_cases::verdicts;
+use stored_cases::verdicts::Verdict;
+use stored_cases::words;
 
 struct Tally {
     ran: u64,
@@ -68,7 +69,7 @@ fn replay_lines(name: &[u8], text: &[u8]) -> Tally {
     let mut number = 0;
     let mut at = 0;
     while at < text.len() {
-        let end = words::find(text, at, b'\n');
+        let end = at + words::find(&text[at..], b'\n');
         number += 1;
         let verdict = replay_line(name, number, &text[at..end]);
         ran += verdicts::ran(verdict);
@@ -87,13 +88,6 @@ fn sum_up(name: &[u8], tally: Tally) {
     io::write_all(STDOUT_FILENO, b" cases agree\n");
 }
 
-fn front(text: &[u8], length: usize) -> &[u8] {
-    if length < text.len() {
-        return &text[0..length];
-    }
-    text
-}
-
 pub fn replay(name: &[u8]) {
     let mut space = [0u8; 262144];
     let text: &mut [u8] = &mut space;
@@ -105,6 +99,6 @@ pub fn replay(name: &[u8]) {
         );
         return;
     };
-    let tally = replay_lines(name, front(text, length));
+    let tally = replay_lines(name, lists_u8::front(text, length));
     sum_up(name, tally);
 }

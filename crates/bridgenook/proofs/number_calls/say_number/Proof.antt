@@ -9,8 +9,8 @@ use Rattle.bridgenook.proofs.number_calls.say_number.Tie as tie
 enum-known-number : tie.Need-enum-known-number
 enum-known-number c = search needs
 
-cast-accept : tie.Need-cast-accept
-cast-accept c = search needs
+cast-t6 : tie.Need-cast-t6
+cast-t6 c = search needs
 
 accept-requires : tie.Need-accept-requires
 accept-requires c κs = search needs
@@ -32,7 +32,7 @@ say-number-spec =
     tie.close
     (tie.spec
     enum-known-number
-    cast-accept
+    cast-t6
     accept-requires
     enum-known-number-2
     refuse-requires

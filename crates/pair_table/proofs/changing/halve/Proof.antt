@@ -35,7 +35,7 @@ returns c =
     let b = c .before .before .before .before .before .before in
     let a = b .args in
     let k = c .before .before .before .loop in
-    halving-stops (a .region .now) (a .spare .now) (k .region) (k .spare) (a .lg) (a .v) (a .c) (k .at) (k .inv) (b .pre .0) (rw (c .before .size .ensures) at (c .if1 .taken))
+    halving-stops (a .region .now) (a .spare .now) (k .region) (k .spare) (a .lg) (a .v) (a .c) (k .at) (k .inv) (b .pre .0) (omega (arith, c .before .size .ensures, c .if1 .taken))
 
 sub-rebuild : tie.Need-sub-rebuild Inv-loop μ-loop
 sub-rebuild c = omega arith
@@ -59,7 +59,7 @@ loop-again c =
     let a = b .args in
     let k = c .before .before .before .before .before .before .before .before .before .before .loop in
     let r = c .before .before .before .before .rebuild in
-    halving-goes (a .region .now) (a .spare .now) (k .region) (k .spare) (a .lg) (a .v) (a .c) (k .at) (k .inv) (b .pre .0) (c .before .before .before .before .before .before .before .before .before .loop-test .taken) (rw (c .before .before .before .before .before .before .before .before .size .ensures) at (c .before .before .before .before .before .before .before .if1 .left)) (r .last .0) (r .last .1 .0) (r .ensures .0) (r .ensures .1)
+    halving-goes (a .region .now) (a .spare .now) (k .region) (k .spare) (a .lg) (a .v) (a .c) (k .at) (k .inv) (b .pre .0) (c .before .before .before .before .before .before .before .before .before .loop-test .taken) (omega (arith, c .before .before .before .before .before .before .before .before .size .ensures, c .before .before .before .before .before .before .before .if1 .left)) (r .last .0) (r .last .1 .0) (r .ensures .0) (r .ensures .1)
 
 same-length-3 : tie.Need-same-length-3 Inv-loop μ-loop
 same-length-3 c = c .before .loop .inv .long

@@ -14,8 +14,20 @@ abbrev μ-loop : tie.MeasureT-loop
 loop-holds : tie.Need-loop-holds Inv-loop μ-loop
 loop-holds c = search needs
 
+sub-find : tie.Need-sub-find Inv-loop μ-loop
+sub-find c = search needs
+
+part-find-start : tie.Need-part-find-start Inv-loop μ-loop
+part-find-start c = search needs
+
+part-find-end : tie.Need-part-find-end Inv-loop μ-loop
+part-find-end c = search needs
+
 find-requires : tie.Need-find-requires Inv-loop μ-loop
 find-requires c κs = search needs
+
+add-end : tie.Need-add-end Inv-loop μ-loop
+add-end c = search needs
 
 add-number : tie.Need-add-number Inv-loop μ-loop
 add-number c = search needs
@@ -63,7 +75,11 @@ replay-lines-spec =
     Inv-loop
     μ-loop
     loop-holds
+    sub-find
+    part-find-start
+    part-find-end
     find-requires
+    add-end
     add-number
     sub-replay-line
     part-replay-line-start
