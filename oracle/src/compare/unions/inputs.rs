@@ -9,7 +9,6 @@ use crate::lent_matrices::Sketch;
 use crate::lent_matrices::Union;
 use crate::listed::Listed;
 use crate::plain_reading::unions as reading;
-use crate::rust::unions::State;
 use crate::rust::unions::refuses_seed;
 
 fn is_outside(lg: u8) -> bool {
@@ -58,7 +57,6 @@ pub struct SplitInput {
     pub matrix: Listed<u64>,
     pub window: usize,
     pub room: usize,
-    pub state: State,
     flavor: u64,
     offset: u64,
     column: u64,
@@ -66,7 +64,7 @@ pub struct SplitInput {
 }
 
 impl SplitInput {
-    pub fn new(lg: u8, matrix: &[u64], window: usize, room: usize, state: State) -> Self {
+    pub fn new(lg: u8, matrix: &[u64], window: usize, room: usize) -> Self {
         let is_lawful = !is_outside(lg) && matrix.len() == 1 << lg;
         let split = is_lawful.then(|| reading::Split::of(lg, matrix));
         let of = |value: fn(&reading::Split) -> u64| split.as_ref().map_or(0, value);
@@ -75,7 +73,6 @@ impl SplitInput {
             matrix: Listed::of(matrix),
             window,
             room,
-            state,
             flavor: of(|split| split.flavor),
             offset: of(|split| split.offset),
             column: of(|split| split.column),
@@ -127,19 +124,12 @@ const SPLIT_LONG: Class<SplitInput> = Class {
     holds: |input| input.flavor >= 2 && input.listed > 24 << input.lg,
 };
 
-const SPLIT_FEW: Class<SplitInput> = Class {
-    name: "Empty or Sparse coupons while the Rust's union already has a matrix",
-    sides: "ours lists all pairs and no window, the Rust gives a window and lists columns from 8 on",
-    holds: |input| input.flavor < 2 && input.state == State::Matrix,
-};
-
 pub const SPLIT_CLASSES: &[Class<SplitInput>] = &[
     SPLIT_OUTSIDE,
     SPLIT_LENGTH,
     SPLIT_WINDOW,
     SPLIT_ROOM,
     SPLIT_LONG,
-    SPLIT_FEW,
 ];
 
 pub const COLUMN_CLASSES: &[Class<SplitInput>] = &[
@@ -148,7 +138,6 @@ pub const COLUMN_CLASSES: &[Class<SplitInput>] = &[
     SPLIT_WINDOW,
     SPLIT_ROOM,
     SPLIT_LONG,
-    SPLIT_FEW,
     Class {
         name: "first interesting column above the offset",
         sides: "ours answers it, 64 if there is no surprise, the Rust answers the offset",
