@@ -82,11 +82,8 @@ fn faulty() -> Vec<Sketch> {
         window: vec![],
         pairs: pairs.to_vec(),
     };
-    let first = |byte| {
-        let mut window = [0; 16];
-        window[0] = byte;
-        window
-    };
+    let first = |byte| [[byte].as_slice(), &[0; 15]].concat().try_into().unwrap();
+    let last = |byte| [[0; 15].as_slice(), &[byte]].concat().try_into().unwrap();
     vec![
         without(0, &[0]),
         without(0, &[1024]),
@@ -99,7 +96,7 @@ fn faulty() -> Vec<Sketch> {
         with_window(1, [0; 16], &[0]),
         with_window(2, first(1), &[0]),
         with_window(2, first(1), &[]),
-        with_window(950, first(128), &[]),
+        with_window(950, last(128), &[]),
         with_window(950, [0; 16], &[57]),
     ]
 }

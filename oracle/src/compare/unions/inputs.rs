@@ -155,6 +155,7 @@ pub struct Source {
     refusal: u32,
     offset: u64,
     is_past_columns: bool,
+    has_duplicate: bool,
 }
 
 impl Source {
@@ -168,6 +169,7 @@ impl Source {
             refusal,
             offset: reading::offset_of(sketch.lg, sketch.coupons.into()),
             is_past_columns: is_sized && reading::row_past_columns(sketch).is_some(),
+            has_duplicate: refusal == 11 && has_duplicate(&sketch.pairs),
         }
     }
 
@@ -196,6 +198,12 @@ impl fmt::Display for Source {
         } = self;
         write!(f, "{lg} {coupons}, window {window}, pairs {pairs}")
     }
+}
+
+fn has_duplicate(pairs: &[u32]) -> bool {
+    let mut sorted = pairs.to_vec();
+    sorted.sort_unstable();
+    sorted.windows(2).any(|two| two[0] == two[1])
 }
 
 /// A sketch to expand, into a matrix of such a length.
@@ -251,8 +259,16 @@ const fn row_outside<I: AsRef<Source>>() -> Class<I> {
 
 const fn not_increasing<I: AsRef<Source>>() -> Class<I> {
     Class {
-        name: "a pair not above the one before",
-        sides: "ours refuses 11, the Rust takes any order, and calls a duplicate one",
+        name: "a pair not above the one before, without duplicates",
+        sides: "ours refuses 11, the Rust takes any order",
+        holds: |input| input.as_ref().refusal == 11 && !input.as_ref().has_duplicate,
+    }
+}
+
+const fn duplicate<I: AsRef<Source>>() -> Class<I> {
+    Class {
+        name: "a duplicate, or one besides another fault",
+        sides: "ours refuses 11 at its place, the Rust refuses a duplicate without a place, or panics",
         holds: |input| input.as_ref().refusal == 11,
     }
 }
@@ -292,6 +308,7 @@ pub const EXPAND_CLASSES: &[Class<ExpandInput>] = &[
     window_length(),
     row_outside(),
     not_increasing(),
+    duplicate(),
     past_columns(),
     Class {
         name: "a listed pair inside the window's columns",
@@ -405,6 +422,7 @@ pub const MERGE_CLASSES: &[Class<MergeInput>] = &[
     window_length(),
     row_outside(),
     not_increasing(),
+    duplicate(),
     past_columns(),
     Class {
         name: "a listed pair inside the window's columns",
