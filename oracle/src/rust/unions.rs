@@ -104,7 +104,8 @@ impl RustUnion {
         Self((lg, seed, Err(rows.to_vec())))
     }
 
-    /// In the state that the Rust's own would have.
+    /// In the state that the Rust's own would have: it has a matrix once its coupons have been more than Sparse, and
+    /// no fold makes them Sparse again, since a cell holds at most as many as there are rows folded into one.
     fn holding(lg: u8, seed: u64, rows: &[u64]) -> Result<Self, Error> {
         match has_window(lg, coupons(rows)) {
             true => Ok(Self::with_matrix(lg, seed, rows)),
@@ -114,14 +115,6 @@ impl RustUnion {
 
     pub fn update(self, sketch: &CpcSketch) -> Result<Self, Error> {
         CpcSketch::inside().union_update(self.0, sketch).map(Self)
-    }
-
-    /// In which state the Rust holds its coupons.
-    pub fn state(&self) -> State {
-        match self.0.2 {
-            Ok(_) => State::Usual,
-            Err(_) => State::Matrix,
-        }
     }
 
     pub fn spoken(&self) -> Vec<u64> {
@@ -135,7 +128,7 @@ impl RustUnion {
 
     /// The parts, and the first interesting column.
     fn to_sketch(self) -> (SpokenParts, u64) {
-        let sketch = CpcSketch::inside().union_to_sketch(self.0);
+        let (sketch, _) = CpcSketch::inside().union_to_sketch(self.0);
         let (coupons, offset, column, ..) = CpcSketch::inside().parts_of_sketch(&sketch);
         let Sketch {
             lg, window, pairs, ..
@@ -155,19 +148,10 @@ pub fn new_union(lg: u8, seed: u64) -> Said<Spoken<u64>> {
     listen(|| RustUnion::new(lg, seed).map(|union| union.spoken())).map(spoken)
 }
 
-/// In which state the Rust's union holds a matrix that is split.
-#[derive(Clone, Copy, PartialEq, Eq, PartialOrd, Ord)]
-pub enum State {
-    /// A sketch, if the coupons are Empty or Sparse.
-    Usual,
-    /// A matrix, however few its coupons are.
-    Matrix,
-}
-
-pub fn split(lg: u8, matrix: &[u64], state: State) -> Said<(SpokenParts, u64)> {
+pub fn split(lg: u8, matrix: &[u64]) -> Said<(SpokenParts, u64)> {
     listen(|| {
-        let union = match state {
-            State::Usual if (4..=26).contains(&lg) => RustUnion::holding(lg, SEED, matrix),
+        let union = match lg {
+            4..=26 => RustUnion::holding(lg, SEED, matrix),
             _ => Ok(RustUnion::with_matrix(lg, SEED, matrix)),
         };
         union.expect("the Rust takes this seed").to_sketch()

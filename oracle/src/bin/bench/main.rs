@@ -1,5 +1,5 @@
-//! Three tables of timings: the checks of books, then the streams of pairs and the pair table beside the
-//! Rust. They are for reading; none of them is a test.
+//! Four tables of timings: the checks of books, then the streams of pairs, the pair table, and matrices and
+//! unions beside the Rust. They are for reading; none of them is a test. `bench unions` has the last alone.
 
 // The modules are those of the comparison, and a benchmark needs a part of each.
 #![allow(dead_code)]
@@ -26,11 +26,17 @@ mod plain_reading;
 mod random;
 mod stream_table;
 mod timing;
+mod union_table;
 
 fn main() {
+    if std::env::args().nth(1).as_deref() == Some("unions") {
+        return union_table::print();
+    }
     book_table::print();
     println!();
     stream_table::print();
     println!();
     pair_table::print();
+    println!();
+    union_table::print();
 }

@@ -34,7 +34,6 @@ use crate::plain_reading::unions as reading;
 use crate::rust::Said;
 use crate::rust::unions as rust;
 use crate::rust::unions::RustUnion;
-use crate::rust::unions::State;
 
 /// Around a matrix that is lent.
 pub const AROUND: u64 = 0x5ca1_ab1e_0dd5_eed5;
@@ -87,7 +86,7 @@ impl<'a> Calls<'a> {
 
     /// Into a window of k bytes and a list with so much room.
     pub fn judge_split(&mut self, lg: u8, matrix: &[u64], room: usize, kind: Kind) {
-        self.judge_split_into(lg, matrix, 1 << lg, room, State::Usual, kind);
+        self.judge_split_into(lg, matrix, 1 << lg, room, kind);
     }
 
     pub fn judge_split_into(
@@ -96,17 +95,16 @@ impl<'a> Calls<'a> {
         matrix: &[u64],
         window: usize,
         room: usize,
-        state: State,
         kind: Kind,
     ) {
-        let said = rust::split(lg, matrix, state);
-        let input = SplitInput::new(lg, matrix, window, room, state);
+        let said = rust::split(lg, matrix);
+        let input = SplitInput::new(lg, matrix, window, room);
         self.judge_split_as(input, matrix, said, kind);
     }
 
     /// The present rows of a union of which the Rust has its own.
     pub fn judge_split_of(&mut self, lg: u8, rows: &[u64], theirs: RustUnion, kind: Kind) {
-        let input = SplitInput::new(lg, rows, rows.len(), 64 * rows.len(), theirs.state());
+        let input = SplitInput::new(lg, rows, rows.len(), 64 * rows.len());
         self.judge_split_as(input, rows, rust::to_sketch(theirs), kind);
     }
 

@@ -157,9 +157,10 @@ fn ask_rust() {
         "the Rust refuses the reserved bit"
     );
     println!("expand, merge: the reserved bit in a window: ours refuses 10, the Rust takes it");
-    let mut matrix = vec![0; ROWS];
-    matrix[ROWS - 1] = LAST_COLUMN;
-    let said = rust::split(LG, &matrix, rust::State::Matrix);
+    // Pinned, so that the Rust has a matrix.
+    let mut matrix = vec![1; ROWS];
+    matrix[ROWS - 1] |= LAST_COLUMN;
+    let said = rust::split(LG, &matrix);
     assert!(
         matches!(said, Said::Panic),
         "the Rust splits the reserved bit"

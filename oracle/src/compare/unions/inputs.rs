@@ -9,7 +9,6 @@ use crate::lent_matrices::Sketch;
 use crate::lent_matrices::Union;
 use crate::listed::Listed;
 use crate::plain_reading::unions as reading;
-use crate::rust::unions::State;
 use crate::rust::unions::refuses_seed;
 
 fn is_outside(lg: u8) -> bool {
@@ -58,7 +57,6 @@ pub struct SplitInput {
     pub matrix: Listed<u64>,
     pub window: usize,
     pub room: usize,
-    pub state: State,
     flavor: u64,
     offset: u64,
     column: u64,
@@ -66,7 +64,7 @@ pub struct SplitInput {
 }
 
 impl SplitInput {
-    pub fn new(lg: u8, matrix: &[u64], window: usize, room: usize, state: State) -> Self {
+    pub fn new(lg: u8, matrix: &[u64], window: usize, room: usize) -> Self {
         let is_lawful = !is_outside(lg) && matrix.len() == 1 << lg;
         let split = is_lawful.then(|| reading::Split::of(lg, matrix));
         let of = |value: fn(&reading::Split) -> u64| split.as_ref().map_or(0, value);
@@ -75,7 +73,6 @@ impl SplitInput {
             matrix: Listed::of(matrix),
             window,
             room,
-            state,
             flavor: of(|split| split.flavor),
             offset: of(|split| split.offset),
             column: of(|split| split.column),
@@ -127,19 +124,12 @@ const SPLIT_LONG: Class<SplitInput> = Class {
     holds: |input| input.flavor >= 2 && input.listed > 24 << input.lg,
 };
 
-const SPLIT_FEW: Class<SplitInput> = Class {
-    name: "Empty or Sparse coupons while the Rust's union already has a matrix",
-    sides: "ours lists all pairs and no window, the Rust gives a window and lists columns from 8 on",
-    holds: |input| input.flavor < 2 && input.state == State::Matrix,
-};
-
 pub const SPLIT_CLASSES: &[Class<SplitInput>] = &[
     SPLIT_OUTSIDE,
     SPLIT_LENGTH,
     SPLIT_WINDOW,
     SPLIT_ROOM,
     SPLIT_LONG,
-    SPLIT_FEW,
 ];
 
 pub const COLUMN_CLASSES: &[Class<SplitInput>] = &[
@@ -148,7 +138,6 @@ pub const COLUMN_CLASSES: &[Class<SplitInput>] = &[
     SPLIT_WINDOW,
     SPLIT_ROOM,
     SPLIT_LONG,
-    SPLIT_FEW,
     Class {
         name: "first interesting column above the offset",
         sides: "ours answers it, 64 if there is no surprise, the Rust answers the offset",
@@ -166,6 +155,7 @@ pub struct Source {
     refusal: u32,
     offset: u64,
     is_past_columns: bool,
+    has_duplicate: bool,
 }
 
 impl Source {
@@ -179,6 +169,7 @@ impl Source {
             refusal,
             offset: reading::offset_of(sketch.lg, sketch.coupons.into()),
             is_past_columns: is_sized && reading::row_past_columns(sketch).is_some(),
+            has_duplicate: refusal == 11 && has_duplicate(&sketch.pairs),
         }
     }
 
@@ -207,6 +198,12 @@ impl fmt::Display for Source {
         } = self;
         write!(f, "{lg} {coupons}, window {window}, pairs {pairs}")
     }
+}
+
+fn has_duplicate(pairs: &[u32]) -> bool {
+    let mut sorted = pairs.to_vec();
+    sorted.sort_unstable();
+    sorted.windows(2).any(|two| two[0] == two[1])
 }
 
 /// A sketch to expand, into a matrix of such a length.
@@ -262,8 +259,16 @@ const fn row_outside<I: AsRef<Source>>() -> Class<I> {
 
 const fn not_increasing<I: AsRef<Source>>() -> Class<I> {
     Class {
-        name: "a pair not above the one before",
-        sides: "ours refuses 11, the Rust takes any order, and calls a duplicate one",
+        name: "a pair not above the one before, without duplicates",
+        sides: "ours refuses 11, the Rust takes any order",
+        holds: |input| input.as_ref().refusal == 11 && !input.as_ref().has_duplicate,
+    }
+}
+
+const fn duplicate<I: AsRef<Source>>() -> Class<I> {
+    Class {
+        name: "a duplicate, or one besides another fault",
+        sides: "ours refuses 11 at its place, the Rust refuses a duplicate without a place, or panics",
         holds: |input| input.as_ref().refusal == 11,
     }
 }
@@ -303,6 +308,7 @@ pub const EXPAND_CLASSES: &[Class<ExpandInput>] = &[
     window_length(),
     row_outside(),
     not_increasing(),
+    duplicate(),
     past_columns(),
     Class {
         name: "a listed pair inside the window's columns",
@@ -416,6 +422,7 @@ pub const MERGE_CLASSES: &[Class<MergeInput>] = &[
     window_length(),
     row_outside(),
     not_increasing(),
+    duplicate(),
     past_columns(),
     Class {
         name: "a listed pair inside the window's columns",

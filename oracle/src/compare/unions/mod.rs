@@ -1,6 +1,7 @@
 //! Matrices and unions.
 
 mod calls;
+mod chosen;
 mod grown;
 mod huge;
 mod inputs;
@@ -12,11 +13,8 @@ use self::calls::Calls;
 use self::lent::LentCalls;
 use crate::cases::Kind;
 use crate::cases::RustAnswers;
-use crate::lent_matrices::Sketch;
 use crate::lent_matrices::Union;
 use crate::random::Random;
-use crate::rust::unions::State;
-use crate::rust::unions::refuses_seed;
 
 /// The seed of most unions and sketches.
 const SEED: u64 = 9001;
@@ -39,7 +37,7 @@ pub struct Effort {
 
 pub fn compare(rust_answers: &RustAnswers, effort: &Effort) {
     let mut calls = Calls::new(rust_answers);
-    judge_chosen(&mut calls);
+    chosen::judge(&mut calls);
     judge_chosen_damage(&mut calls);
     judge_smallest(&mut calls, effort.step);
     judge_thresholds(&mut calls, effort.most);
@@ -53,33 +51,6 @@ pub fn compare(rust_answers: &RustAnswers, effort: &Effort) {
     calls.finish();
     if effort.huge {
         huge::judge_reserved();
-    }
-}
-
-/// The smallest inputs, wrong lengths and lg_k; the first seed that the Rust refuses.
-fn judge_chosen(calls: &mut Calls) {
-    for lg in (0..=6).chain([26, 27, 31, 32, 63, 64, u8::MAX]) {
-        for length in [0, 1, 15, 16, 17, 31, 32, 64] {
-            let matrix = vec![0; length];
-            calls.judge_count(lg, &matrix, Kind::Chosen);
-            calls.judge_new(lg, SEED, length, Kind::Chosen);
-            calls.judge_split_into(lg, &matrix, length, 0, State::Usual, Kind::Chosen);
-            let sketch = Sketch {
-                lg,
-                coupons: 0,
-                window: vec![],
-                pairs: vec![],
-            };
-            calls.judge_expand(&sketch, length, Kind::Chosen);
-        }
-    }
-    let refused = (0..).find(|&seed| refuses_seed(seed)).unwrap();
-    for seed in [0, 1, SEED, u64::MAX, refused] {
-        calls.judge_new(4, seed, 16, Kind::Chosen);
-        let sketch = sketches::sketch(4, &[1; 16]);
-        calls.judge_merge(&Union::empty(4, seed), &sketch, seed, Kind::Chosen);
-        calls.judge_merge(&Union::empty(4, seed), &sketch, SEED, Kind::Chosen);
-        calls.judge_merge(&Union::empty(4, SEED), &sketch, seed, Kind::Chosen);
     }
 }
 
@@ -130,9 +101,6 @@ fn judge_matrix(calls: &mut Calls, lg: u8, matrix: &[u64], random: &mut Random) 
     calls.judge_split(lg, matrix, listed, kind);
     calls.judge_split(lg, matrix, listed + 5, kind);
     calls.judge_split(lg, matrix, listed.saturating_sub(1), kind);
-    if sketch.window.is_empty() {
-        calls.judge_split_into(lg, matrix, rows, listed, State::Matrix, kind);
-    }
     calls.judge_expand(&sketch, rows, kind);
     for _ in 0..2 {
         let union = random_union(lg, random);

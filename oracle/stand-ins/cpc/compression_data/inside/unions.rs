@@ -84,7 +84,9 @@ impl Inside {
         Ok(union.into_fields())
     }
 
-    pub fn union_to_sketch(&self, fields: Fields) -> CpcSketch {
-        CpcUnion::of_fields(fields).to_sketch()
+    /// The union is handed back, so that a benchmark need not copy it.
+    pub fn union_to_sketch(&self, fields: Fields) -> (CpcSketch, Fields) {
+        let union = CpcUnion::of_fields(fields);
+        (union.to_sketch(), union.into_fields())
     }
 }

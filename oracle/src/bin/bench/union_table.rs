@@ -1,0 +1,175 @@
+//! How long matrices take to be counted, split and expanded, and sketches to be merged, beside the Rust, in one
+//! process and on the same sketches.
+
+use std::hint::black_box;
+
+use datasketches::cpc::CpcSketch;
+
+use crate::lent_matrices::Sketch;
+use crate::ours::unions as ours;
+use crate::random::Random;
+use crate::timing::Runs;
+
+const SEED: u64 = 9001;
+
+const LGS: [u8; 4] = [10, 12, 16, 20];
+
+/// A flavor, and the items that a sketch of it is grown from: so many for each 256 rows.
+const FLAVORS: [(&str, u64); 4] = [
+    ("Sparse", 20),
+    ("Hybrid", 80),
+    ("Pinned", 512),
+    ("Sliding", 2048),
+];
+
+const HEADING: &str = "\
+Matrices and unions: medians in microseconds, and the Rust's time over ours, so that 1.0 is even and more is faster.
+A merge is into a union of the same k that already has a matrix, on both sides. Ours judges the union and the source
+whole, on every call; the Rust judges nothing. \"Judging\" is our merge with a wrong seed, which is refused at the very
+end, as a share of the whole call. The Rust's expansion and split reserve their own memory; its split fills a table,
+ours a sorted list. The last rows count, beside a plain sum over the same words by the Rust.";
+
+/// A sketch on both sides, and the matrix that it stands for.
+struct Tried {
+    name: String,
+    sketch: Sketch,
+    made: CpcSketch,
+    matrix: Vec<u64>,
+}
+
+pub fn print() {
+    println!("{HEADING}");
+    println!(
+        "{:<28} {:>12} {:>12} {:>8} {:>9}",
+        "", "ours", "the Rust", "ratio", "judging"
+    );
+    let mut random = Random::new(3);
+    for lg in LGS {
+        for (flavor, items) in FLAVORS {
+            let tried = Tried::new(lg, flavor, (items << lg) >> 8, &mut random);
+            let (ours, rust) = tried.time_merge();
+            let judging = tried.time_judging() / ours;
+            print_row("merge", &tried.name, (ours, rust), Some(judging));
+            print_row("expand", &tried.name, tried.time_expand(), None);
+            print_row("split", &tried.name, tried.time_split(), None);
+        }
+    }
+    for lg in [12, 16, 20, 24] {
+        let matrix: Vec<u64> = (0..1u64 << lg).map(|_| random.number()).collect();
+        print_row(
+            "count",
+            &format!("lg_k {lg}"),
+            time_count(lg, &matrix),
+            None,
+        );
+    }
+}
+
+fn print_row(call: &str, name: &str, (ours, rust): (f64, f64), judging: Option<f64>) {
+    let (name, ratio) = (format!("{call}, {name}"), rust / ours);
+    print!("{name:<28} {ours:>12.2} {rust:>12.2} {ratio:>8.2}");
+    if let Some(judging) = judging {
+        print!(" {judging:>9.2}");
+    }
+    println!();
+}
+
+/// The shorter a call, the more of them are one run.
+fn runs(lg: u8) -> Runs {
+    match lg {
+        0..=12 => Runs {
+            runs: 101,
+            calls: 20,
+        },
+        13..=16 => Runs { runs: 51, calls: 1 },
+        _ => Runs { runs: 9, calls: 1 },
+    }
+}
+
+/// A count, and a sum of the words as the Rust compiles it: the pace of this machine's memory.
+fn time_count(lg: u8, matrix: &[u64]) -> (f64, f64) {
+    let ours = || assert!(ours::count(lg, black_box(matrix)).number == 0);
+    let sum = || {
+        let words = black_box(matrix).iter();
+        black_box(words.fold(0u64, |sum, &word| sum.wrapping_add(word)));
+    };
+    runs(lg).medians(ours, sum)
+}
+
+impl Tried {
+    fn new(lg: u8, flavor: &str, items: u64, random: &mut Random) -> Self {
+        let inside = CpcSketch::inside();
+        let mut made = CpcSketch::with_seed(lg, SEED).expect("the Rust takes this seed");
+        (0..items).for_each(|_| made.update(random.number()));
+        let (coupons, _, _, window, mut pairs) = inside.parts_of_sketch(&made);
+        pairs.sort_unstable();
+        let sketch = Sketch {
+            lg,
+            coupons,
+            window,
+            pairs,
+        };
+        Self {
+            name: format!("{flavor}, lg_k {lg}"),
+            matrix: inside.build_bit_matrix(&made),
+            sketch,
+            made,
+        }
+    }
+
+    /// Into a union of another sketch's matrix, which holds these coupons after the first call.
+    fn time_merge(&self) -> (f64, f64) {
+        let (lg, inside) = (self.sketch.lg, CpcSketch::inside());
+        let mut matrix = self.matrix.clone();
+        let ours = || {
+            let record = (lg, lg, SEED);
+            let merged = ours::merge(record, &mut matrix, black_box(&self.sketch), SEED);
+            assert!(merged.number == 0);
+        };
+        let mut union = Some((lg, SEED, Err(self.matrix.clone())));
+        let rust = || {
+            let before = union.take().expect("it is put back");
+            union = inside.union_update(before, black_box(&self.made)).ok();
+        };
+        runs(lg).medians(ours, rust)
+    }
+
+    /// Everything that a merge judges, refused by the seed at the end.
+    fn time_judging(&self) -> f64 {
+        let lg = self.sketch.lg;
+        let mut matrix = self.matrix.clone();
+        runs(lg).median(|| {
+            let record = (lg, lg, SEED);
+            let refused = ours::merge(record, &mut matrix, black_box(&self.sketch), SEED + 1);
+            assert!(refused.number == 16);
+        })
+    }
+
+    fn time_expand(&self) -> (f64, f64) {
+        let mut matrix = self.matrix.clone();
+        let ours = || assert!(ours::expand(black_box(&self.sketch), &mut matrix).number == 0);
+        let rust = || {
+            black_box(CpcSketch::inside().build_bit_matrix(black_box(&self.made)));
+        };
+        runs(self.sketch.lg).medians(ours, rust)
+    }
+
+    /// The Rust's union keeps its matrix, and is handed over and back.
+    fn time_split(&self) -> (f64, f64) {
+        let (lg, inside) = (self.sketch.lg, CpcSketch::inside());
+        let mut window = vec![0; 1 << lg];
+        let mut pairs = vec![0; self.sketch.coupons as usize];
+        let ours = || {
+            let split = ours::split(lg, black_box(&self.matrix), &mut window, &mut pairs);
+            assert!(split.number == 0);
+        };
+        let mut union = Some((lg, SEED, Err(self.matrix.clone())));
+        let rust = || {
+            let before = union.take().expect("it is put back");
+            let (sketch, after) = inside.union_to_sketch(black_box(before));
+            black_box(sketch);
+            union = Some(after);
+        };
+        runs(lg).medians(ours, rust)
+    }
+}
