@@ -14,12 +14,12 @@ const SEED: u64 = 9001;
 
 const LGS: [u8; 4] = [10, 12, 16, 20];
 
-/// A flavor, and the items that a sketch of it is grown from: so many for each 256 rows.
-const FLAVORS: [(&str, u64); 4] = [
-    ("Sparse", 20),
-    ("Hybrid", 80),
-    ("Pinned", 512),
-    ("Sliding", 2048),
+/// A flavor with its number, and the items that a sketch of it is grown from: so many for each 256 rows.
+const FLAVORS: [(&str, u8, u64); 4] = [
+    ("Sparse", 1, 20),
+    ("Hybrid", 2, 80),
+    ("Pinned", 3, 512),
+    ("Sliding", 4, 4096),
 ];
 
 const HEADING: &str = "\
@@ -27,7 +27,8 @@ Matrices and unions: medians in microseconds, and the Rust's time over ours, so 
 A merge is into a union of the same k that already has a matrix, on both sides. Ours judges the union and the source
 whole, on every call; the Rust judges nothing. \"Judging\" is our merge with a wrong seed, which is refused at the very
 end, as a share of the whole call. The Rust's expansion and split reserve their own memory; its split fills a table,
-ours a sorted list. The last rows count, beside a plain sum over the same words by the Rust.";
+ours a sorted list. The last rows are our count, beside the Rust's count and beside a plain sum over the same words,
+which is the pace of memory at lg_k 24 and that of a cache below. Calls of milliseconds need a machine at rest.";
 
 /// A sketch on both sides, and the matrix that it stands for.
 struct Tried {
@@ -45,23 +46,25 @@ pub fn print() {
     );
     let mut random = Random::new(3);
     for lg in LGS {
-        for (flavor, items) in FLAVORS {
+        for (flavor, number, items) in FLAVORS {
             let tried = Tried::new(lg, flavor, (items << lg) >> 8, &mut random);
+            let is = CpcSketch::inside().determine_flavor(lg, tried.sketch.coupons);
+            assert!(is == number, "{} is of flavor {is}", tried.name);
             let (ours, rust) = tried.time_merge();
             let judging = tried.time_judging() / ours;
             print_row("merge", &tried.name, (ours, rust), Some(judging));
             print_row("expand", &tried.name, tried.time_expand(), None);
-            print_row("split", &tried.name, tried.time_split(), None);
+            // The Rust's union has no matrix while its coupons are Sparse, and copies its sketch.
+            if flavor != "Sparse" {
+                print_row("split", &tried.name, tried.time_split(), None);
+            }
         }
     }
     for lg in [12, 16, 20, 24] {
         let matrix: Vec<u64> = (0..1u64 << lg).map(|_| random.number()).collect();
-        print_row(
-            "count",
-            &format!("lg_k {lg}"),
-            time_count(lg, &matrix),
-            None,
-        );
+        let name = format!("lg_k {lg}");
+        print_row("count", &name, time_count(lg, &matrix), None);
+        print_row("count by a sum", &name, time_beside_sum(lg, &matrix), None);
     }
 }
 
@@ -86,8 +89,16 @@ fn runs(lg: u8) -> Runs {
     }
 }
 
-/// A count, and a sum of the words as the Rust compiles it: the pace of this machine's memory.
 fn time_count(lg: u8, matrix: &[u64]) -> (f64, f64) {
+    let ours = || assert!(ours::count(lg, black_box(matrix)).number == 0);
+    let rust = || {
+        black_box(CpcSketch::inside().count_bits_set_in_matrix(black_box(matrix)));
+    };
+    runs(lg).medians(ours, rust)
+}
+
+/// Our count, and a sum of the words as the Rust compiles it: the pace of this machine's memory, or of its caches.
+fn time_beside_sum(lg: u8, matrix: &[u64]) -> (f64, f64) {
     let ours = || assert!(ours::count(lg, black_box(matrix)).number == 0);
     let sum = || {
         let words = black_box(matrix).iter();
@@ -117,7 +128,7 @@ impl Tried {
         }
     }
 
-    /// Into a union of another sketch's matrix, which holds these coupons after the first call.
+    /// Into a union that holds these coupons already, so that every call does the same.
     fn time_merge(&self) -> (f64, f64) {
         let (lg, inside) = (self.sketch.lg, CpcSketch::inside());
         let mut matrix = self.matrix.clone();

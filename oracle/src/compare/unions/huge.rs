@@ -160,6 +160,8 @@ fn ask_rust() {
     // Pinned, so that the Rust has a matrix.
     let mut matrix = vec![1; ROWS];
     matrix[ROWS - 1] |= LAST_COLUMN;
+    let ours = ours::split(LG, &matrix, &mut vec![0; ROWS], &mut [0]);
+    assert!(ours == Answer::refused_at(10, ROWS as u64 - 1));
     let said = rust::split(LG, &matrix);
     assert!(
         matches!(said, Said::Panic),
