@@ -36,3 +36,4 @@ pub mod Holding
 pub mod HeldPairs
 pub mod Reordering
 pub mod Fits
+pub mod WrongUnions
