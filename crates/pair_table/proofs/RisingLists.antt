@@ -1,11 +1,11 @@
 -- A list that rises, stored without a search: from p on all slots are empty, and from the home of any item still to come up to p none is. Assumes nothing.
-use mathlib.Core.Path.{_≡_, refl, sym, ap, _∙_, subst}
+use mathlib.Core.Path.{_≡_, sym, ap, _∙_, subst}
 use mathlib.Core.Bool.{false}
 use mathlib.Core.Logic.{_⊎_, ⊎-elim}
 use mathlib.Core.List.{List, []}
 use Prim.Native.Nat.{ℕ, _+_, _-_, _*_, _^_, _≤_, _<_}
 use native.Mathlib.Omega.{arith}
-use native.Mathlib.Nat.{le-trans}
+use native.Mathlib.Nat.{le-trans, lt-of-lt-of-le as lt-le}
 use native.Mathlib.Numerals.{lt-of-le-of-ne}
 use lib.ListN.{length, getD, set}
 use lib.Pow.{pow-pos, pow-mono, shr-mono}
@@ -13,14 +13,14 @@ use lib.Seq.{getD-set-same, getD-set-other}
 use Rattle.laws.proofs.Orders.{same-or-not, lt-or-le}
 use Rattle.refusals.specs.Outcome.{accepted}
 use Rattle.tables.specs.Slots.{empty, home, stops, spot}
-use Rattle.tables.specs.Changes.{blank, fill}
+use Rattle.tables.specs.Changes.{blank}
 use Rattle.tables.specs.Shapes.{steps, EmptyFrom, Lawful, Built}
 use Rattle.tables.specs.Calls.{itemJudged, itemsJudged}
 use Rattle.tables.proofs.Laws.{stops-empty, stops-not, at-or-below, all-empty}
 use Rattle.tables.proofs.Paths.{Ends, steps-line, spot-ends, run-none}
 use Rattle.tables.proofs.Refilled.{items-some}
 use Rattle.tables.proofs.Items.{Fine, fine-item, fine-items}
-use Rattle.tables.proofs.Finger.{Before, stay}
+use Rattle.tables.proofs.Finger.{Before, first, stay}
 use Rattle.pair_table.specs.Steps.{NoneAbove, BuiltTo}
 
 -- ---- the highest item decides for all
@@ -54,24 +54,29 @@ goes-on o t s lg v least top i b h = record {
   fresh = b .fresh;
 }
 
+-- an empty table has no item anywhere
+no-items : (t : List ℕ) (lg v : ℕ) → Lawful t lg v 0 → (k : ℕ) → getD t k 0 ≡ empty ⊎ (getD t k 0 ≡ empty → ⊥) → k < length t → getD t k 0 ≡ empty
+no-items t lg v l k e h = ⊎-elim
+    (λ z. z)
+    (λ f. ⊎-elim (λ (b : k < 2 ^ lg). absurd (omega (arith, items-some t (2 ^ lg) k b f, l .count))) (λ (b : 2 ^ lg ≤ k). l .beyond k b h) (lt-or-le k (2 ^ lg)))
+    e
+
 -- before the first item
 pub rising-start : (o t : List ℕ) (lg v : ℕ) → Lawful t lg v 0 → Rising o t t lg v 0 0 0
-unfolding fill
-rising-start o t lg v l = record {
-  so-far = record {
-    within = omega arith;
-    long = refl;
-    now-is = refl;
-    lawful = l;
-    below = λ j jn f. absurd (omega (arith, items-some t (2 ^ lg) j jn f, l .count));
-    fresh = λ k h. absurd (omega arith);
-  };
-  vacant = λ j h jn. none j jn (same-or-not (getD t j 0) empty);
-  filled = λ y h k a b. absurd (omega arith);
-}
-  where
-    none : (j : ℕ) → j < 2 ^ lg → (getD t j 0 ≡ empty) ⊎ (getD t j 0 ≡ empty → ⊥) → getD t j 0 ≡ empty
-    none j jn e = ⊎-elim (λ z. z) (λ f. absurd (omega (arith, items-some t (2 ^ lg) j jn f, l .count))) e
+rising-start o t lg v l =
+    let b = first o t lg v l in
+    record {
+      so-far = record {
+        within = b .within;
+        long = b .long;
+        now-is = b .now-is;
+        lawful = l;
+        below = λ j jn f. absurd (omega (arith, items-some t (2 ^ lg) j jn f, l .count));
+        fresh = b .fresh;
+      };
+      vacant = λ j h jn. no-items t lg v l j (same-or-not (getD t j 0) empty) (lt-le jn (l .room));
+      filled = λ y h k m d. absurd (omega arith);
+    }
 
 -- a search from the home h that ends e steps on
 spot-at : (s : List ℕ) (lg v x h e : ℕ) → h ≡ home lg v x → e < 2 ^ lg → Ends s (2 ^ lg) x h e → spot s lg v x ≡ steps (2 ^ lg) h e
@@ -144,13 +149,7 @@ module _ (o t s : List ℕ) (lg v p least i h q : ℕ) (r : Rising o t s lg v p 
 
 -- ---- the rest of the list
 
--- an empty table is all empty slots
-no-items : (t : List ℕ) (lg v : ℕ) → Lawful t lg v 0 → (k : ℕ) → getD t k 0 ≡ empty ⊎ (getD t k 0 ≡ empty → ⊥) → k < length t → getD t k 0 ≡ empty
-no-items t lg v l k e h = ⊎-elim
-    (λ z. z)
-    (λ f. ⊎-elim (λ (b : k < 2 ^ lg). absurd (omega (arith, items-some t (2 ^ lg) k b f, l .count))) (λ (b : 2 ^ lg ≤ k). l .beyond k b h) (lt-or-le k (2 ^ lg)))
-    e
-
+-- the table was all empty slots
 pub empty-table : (t s : List ℕ) (lg v : ℕ) → Lawful t lg v 0 → length s ≡ length t → t ≡ blank s
 empty-table t s lg v l e = all-empty t (length s) (sym e) (λ k h. no-items t lg v l k (same-or-not (getD t k 0) empty) (omega arith))
 

@@ -1,6 +1,6 @@
 // A table built from a list of items.
-// After `from_slots` in src/cpc/pair_table.rs of the Rust crate datasketches 0.5.0 (Apache-2.0); changed: see lib.rt, and an item above all before it is searched for from where the last search
-// ended, so that a rising list is stored in one pass.
+// After `from_slots` in src/cpc/pair_table.rs of the Rust crate datasketches 0.5.0 (Apache-2.0); changed: see lib.rt, and a list is stored without a search while it rises; after that an
+// item above all before it is searched for from where the last search ended. So a rising list is stored in one pass.
 ghost use mathlib.Core.Path.{_≡_};
 ghost use mathlib.Core.Logic.{_⊎_};
 ghost use Prim.Native.Nat.{ℕ, _+_, _-_, _*_, _^_, _≤_, _<_};

@@ -3,7 +3,6 @@ use Prim.Native.Nat.{_-_, _≤_}
 use native.Mathlib.Omega.{arith}
 use denote.Ref.{now}
 use lib.ListN.{length}
-use borrow.Author.Needs.{needs}
 use Rattle.pair_table.specs.Steps.{NoneAbove}
 use Rattle.pair_table.proofs.RisingLists.{none-more}
 use Rattle.pair_table.proofs.building.highest.Statement.{statement}
