@@ -5,4 +5,5 @@ pub mod Called
 pub mod Inserting
 pub mod Deleting
 pub mod StoringLists
+pub mod RisingLists
 pub mod Only

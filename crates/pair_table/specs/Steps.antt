@@ -9,6 +9,7 @@ use Rattle.laws.specs.Choose.{choose}
 use Rattle.refusals.specs.Outcome.{Outcome, refused, andThen}
 use Rattle.tables.specs.Slots.{empty, holds}
 use Rattle.tables.specs.Changes.{blank, place, rebuilt, fits, inserted, halvedLg, deleted, fill, buildLg}
+use Rattle.tables.specs.Shapes.{Lawful, Member}
 use Rattle.tables.specs.Calls.{unequal, recordOf, unchanged, changed, ifChanged, ifBuilt, growthJudged, itemsJudged, twiceJudged}
 use Rattle.pair_table.specs.Told.{toldTable, toldChange}
 use Rattle.pair_table.specs.declared.TableAnswer.{TableAnswer}
@@ -50,6 +51,19 @@ pub record Buildable (v : ℕ) (list : List ℕ) : Type 0 where
   pub bits-most : v ≤ 32
   pub few : length list ≤ 2 ^ 28
   pub fine : (k : ℕ) → k < length list → (getD list k 0 < 2 ^ v) × (getD list k 0 ≡ empty → ⊥)
+
+-- none of the first i items is above top
+abbrev pub NoneAbove : List ℕ → ℕ → ℕ → Type 0
+NoneAbove list i top = (k : ℕ) → k < i → getD list k 0 ≤ top
+
+-- the first i items of o, none of them twice, stored one after the other in an empty table t: s, and all are below `least`
+pub record BuiltTo (o t s : List ℕ) (lg v least i : ℕ) : Type 0 where
+  pub within : i ≤ length o
+  pub long : length s ≡ length t
+  pub now-is : s ≡ fill o i t lg v
+  pub lawful : Lawful s lg v i
+  pub below : (p : ℕ) → p < 2 ^ lg → (getD s p 0 ≡ empty → ⊥) → getD s p 0 < least
+  pub fresh : (k : ℕ) → k < i → Member (fill o k t lg v) (2 ^ lg) (getD o k 0) → ⊥
 
 -- what is left of it then, and what is left once the table may have its slots
 unfoldable pub storeOn : ℕ → List ℕ → Outcome

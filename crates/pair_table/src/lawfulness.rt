@@ -48,7 +48,8 @@ fn empty_from(slots: &[u32], n: usize) -> bool
     true
 }
 
-fn larger(a: u32, b: u32) -> u32
+// A number that is at least either.
+pub fn larger(a: u32, b: u32) -> u32
     ensures { λ r. ⌜ (a ≤ r) × (b ≤ r) ⌝ }
 {
     if a < b { b } else { a }

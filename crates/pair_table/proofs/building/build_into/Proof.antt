@@ -1,131 +1,33 @@
 -- `pair_table::building::build_into` meets its contract. Assumes nothing.
-use mathlib.Core.Logic.{⊎-elim}
-use Prim.Native.Nat.{_-_}
-use native.Mathlib.Omega.{arith}
-use lib.ListN.{length}
+use denote.Ref.{now}
 use borrow.Author.Needs.{needs}
-use Rattle.tables.proofs.Finger.{Before, first, last, twice, stay, move}
+use Rattle.pair_table.proofs.RisingLists.{rest-needs, rest-built}
 use Rattle.pair_table.proofs.building.build_into.Statement.{statement}
 use Rattle.pair_table.proofs.building.build_into.Tie as tie
 
-abbrev Inv-loop : tie.InvT-loop
-Inv-loop list slots₀ lg v n p₀ len₀ top₀ i₀ slots p len top i = Before list slots₀ slots lg v p len top i
+build-rising-requires : tie.Need-build-rising-requires
+build-rising-requires c κs = search needs
 
-abbrev μ-loop : tie.MeasureT-loop
-μ-loop list slots₀ lg v n p₀ len₀ top₀ i₀ slots p len top i = length list - i
+one-less-requires : tie.Need-one-less-requires
+one-less-requires c κs = search needs
 
-size-requires : tie.Need-size-requires Inv-loop μ-loop
-size-requires c κs = search needs
+build-rest-requires : tie.Need-build-rest-requires
+build-rest-requires c κs =
+    let a = c .before .before .before .before .before .before .before .before in
+    let r = c .before .before .before .before .build-rising in
+    ((rest-needs (now (a .args .list)) (a .args .slots .now) (r .last .1 .0) (a .args .lg) (a .args .v) (r .result .least) (c .before .one-less .result) (r .result .count) (a .pre .0 .0) (r .ensures) (c .before .one-less .ensures), a .pre .0 .1), a .pre .1)
 
-loop-holds : tie.Need-loop-holds Inv-loop μ-loop
-loop-holds c = first _ _ _ _ (c .before .before .before .pre .0 .0)
+same-length : tie.Need-same-length
+same-length c = search needs
 
-mul-x : tie.Need-mul-x Inv-loop μ-loop
-mul-x c = omega arith
-
-shared-slice-read-x : tie.Need-shared-slice-read-x Inv-loop μ-loop
-shared-slice-read-x c = omega arith
-
-locate-requires : tie.Need-locate-requires Inv-loop μ-loop
-locate-requires c κs =
-    let at = c .before .before .before in
-    let a = at .before .before .before .before in
-    let b = at .loop .inv in
-    let x = a .pre .1 (at .loop .i) (c .before .before .loop-test .taken) in
-    (rw (b .lawful .count) (b .lawful), (x .0, x .1, b .finger, b .run))
-
-mul-if1 : tie.Need-mul-if1 Inv-loop μ-loop
-mul-if1 c = omega arith
-
-slice-read-if1 : tie.Need-slice-read-if1 Inv-loop μ-loop
-slice-read-if1 c = omega arith
-
-same-length : tie.Need-same-length Inv-loop μ-loop
-same-length c = c .before .before .before .before .before .before .loop .inv .long
-
-returns : tie.Need-returns Inv-loop μ-loop
+returns : tie.Need-returns
 returns c =
-    let at = c .before .before .before .before .before .before in
-    let a = at .before .before .before .before in
-    let k = c .before .before .locate in
-    twice (a .args .list .now) _ (at .loop .slots) _ _ _ _ _ _ (k .result) (at .loop .inv) (k .ensures .1) (c .if1 .taken) (a .pre .1 (at .loop .i) (c .before .before .before .before .before .loop-test .taken) .1)
-
-mul-slots : tie.Need-mul-slots Inv-loop μ-loop
-mul-slots c = omega arith
-
-slice-write-slots : tie.Need-slice-write-slots Inv-loop μ-loop
-slice-write-slots c = omega arith
-
-home-of-requires : tie.Need-home-of-requires Inv-loop μ-loop
-home-of-requires c κs =
-    let at = c .before .before .before .before .before .before .before in
-    let a = at .before .before .before .before in
-    (omega (arith, a .pre .0 .0), omega (arith, a .pre .0 .0), omega (arith, a .pre .0 .0), a .pre .1 (at .loop .i) (c .before .before .before .before .before .before .loop-test .taken) .0)
-
-dist-requires : tie.Need-dist-requires Inv-loop μ-loop
-dist-requires c κs = search needs
-
-add-len : tie.Need-add-len Inv-loop μ-loop
-add-len c = omega arith
-
-step-requires : tie.Need-step-requires Inv-loop μ-loop
-step-requires c κs = search needs
-
-add-i : tie.Need-add-i Inv-loop μ-loop
-add-i c = omega arith
-
-loop-less : tie.Need-loop-less Inv-loop μ-loop
-loop-less c = omega arith
-
-loop-again : tie.Need-loop-again Inv-loop μ-loop
-loop-again c =
-    let at = c .before .before .before .before .before .before .before in
-    let a = at .before .before .before .before in
-    let z = at .before in
-    let k = c .before .before .before .locate in
-    let t = c .before .before .before .before .before .before .loop-test .taken in
-    let x = a .pre .1 (at .loop .i) t in
-    let e = k .ensures in
-    let new = c .before .if1 .left in
-    ⊎-elim
-    (λ w. rw (w .4, w .5, w .6, w .3 .ensures .0, z .size .ensures)
-    (move (a .args .list .now) (a .args .slots .now) (at .loop .slots) (a .args .lg) (a .args .v) (at .loop .p) (at .loop .len) (at .loop .top) (at .loop .i) (k .result) (at .loop .inv) t (a .pre .0 .1) (x .0) (x .1) (e .0) (e .1) new
-    (w .2 .result) (w .0 .taken) (rw (w .1 .ensures .0) at (w .1 .ensures .1)) (rw (z .size .ensures) at (w .2 .ensures .0)) (rw (w .1 .ensures .0, z .size .ensures) at (w .2 .ensures .1))))
-    (λ w. rw (w .1, w .2, w .3)
-    (stay (a .args .list .now) (a .args .slots .now) (at .loop .slots) (a .args .lg) (a .args .v) (at .loop .p) (at .loop .len) (at .loop .top) (at .loop .i) (k .result) (at .loop .inv) t (a .pre .0 .1) (x .0) (x .1) (e .0) (e .1) new (w .0 .left)))
-    (c .if2 .came)
-
-same-length-2 : tie.Need-same-length-2 Inv-loop μ-loop
-same-length-2 c = c .before .loop .inv .long
-
-returns-2 : tie.Need-returns-2 Inv-loop μ-loop
-returns-2 c =
-    let at = c .before in
-    last _ _ _ _ _ _ _ _ _ (at .loop .inv) (c .loop-test .left)
+    let a = c .before .before .before .before .before .before .before .before .before .before .before in
+    let r = c .before .before .before .before .before .before .before .build-rising in
+    let k = c .before .before .build-rest in
+    rest-built (now (a .args .list)) (a .args .slots .now) (r .last .1 .0) (k .last .1 .0) (a .args .lg) (a .args .v) (r .result .least) (r .result .count) (k .result) (a .pre .0 .0) (r .ensures) (k .ensures)
 
 pub build-into-spec : {M : Type 1} → statement M
 build-into-spec =
     tie.close
-    (tie.spec
-    Inv-loop
-    μ-loop
-    size-requires
-    loop-holds
-    mul-x
-    shared-slice-read-x
-    locate-requires
-    mul-if1
-    slice-read-if1
-    same-length
-    returns
-    mul-slots
-    slice-write-slots
-    home-of-requires
-    dist-requires
-    add-len
-    step-requires
-    add-i
-    loop-less
-    loop-again
-    same-length-2
-    returns-2)
+    (tie.spec build-rising-requires one-less-requires build-rest-requires same-length returns)

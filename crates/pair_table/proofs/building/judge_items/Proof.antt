@@ -1,78 +1,45 @@
 -- `pair_table::building::judge_items` meets its contract. Assumes nothing.
-use mathlib.Core.Path.{refl, sym, ap, _∙_}
-use Prim.Native.Nat.{_-_}
+use mathlib.Core.Path.{sym, ap, _∙_}
 use native.Mathlib.Omega.{arith}
 use denote.Ref.{now}
-use lib.ListN.{length}
 use borrow.Author.Needs.{needs}
 use Rattle.pair_table.specs.Told.{toldVerdict}
-use Rattle.pair_table.proofs.StoringLists.{Judging, items-refused, items-next, items-all}
+use Rattle.pair_table.proofs.RisingLists.{highest-fine}
 use Rattle.pair_table.proofs.building.judge_items.Statement.{statement}
 use Rattle.pair_table.proofs.building.judge_items.Tie as tie
 
-abbrev Inv-loop : tie.InvT-loop
-Inv-loop v list i₀ i = Judging v list i
+highest-requires : tie.Need-highest-requires
+highest-requires c κs = search needs
 
-abbrev μ-loop : tie.MeasureT-loop
-μ-loop v list i₀ i = length list - i
+judge-item-requires : tie.Need-judge-item-requires
+judge-item-requires c κs = search needs
 
-loop-holds : tie.Need-loop-holds Inv-loop μ-loop
-loop-holds c = (omega arith, refl)
-
-mul-judge-item : tie.Need-mul-judge-item Inv-loop μ-loop
-mul-judge-item c = omega arith
-
-shared-slice-read-judge-item : tie.Need-shared-slice-read-judge-item Inv-loop μ-loop
-shared-slice-read-judge-item c = omega arith
-
-judge-item-requires : tie.Need-judge-item-requires Inv-loop μ-loop
-judge-item-requires c κs = c .before .before .before .before .pre
-
-enum-known-why : tie.Need-enum-known-why Inv-loop μ-loop
-enum-known-why c = search needs
-
-returns : tie.Need-returns Inv-loop μ-loop
-returns c =
-    let k = c .before in
-    let a = c .before .before .before .before .before .before .before .before .args in
-    let i = c .before .before .before .before .before .before .loop in
-    items-refused (a .v) (now (a .list)) (i .i) (k .why .given .0 .0) (i .inv) (c .before .before .before .before .before .loop-test .taken) (sym (ap toldVerdict (k .why .given .1)) ∙ k .before .before .judge-item .ensures)
-
-enum-told : tie.Need-enum-told Inv-loop μ-loop
+enum-told : tie.Need-enum-told
 enum-told c = search needs
 
-add-i : tie.Need-add-i Inv-loop μ-loop
-add-i c = omega arith
+first-bad-requires : tie.Need-first-bad-requires
+first-bad-requires c κs = search needs
 
-loop-less : tie.Need-loop-less Inv-loop μ-loop
-loop-less c = omega arith
+returns : tie.Need-returns
+returns c = c .first-bad .ensures
 
-loop-again : tie.Need-loop-again Inv-loop μ-loop
-loop-again c =
-    let a = c .before .before .before .before .before .before .before .args in
-    let i = c .before .before .before .before .before .loop in
-    items-next (a .v) (now (a .list)) (i .i) (i .inv) (c .before .before .before .before .loop-test .taken) (sym (ap toldVerdict (c .enum-told .given .1)) ∙ c .before .before .judge-item .ensures)
+enum-told-2 : tie.Need-enum-told-2
+enum-told-2 c = search needs
 
-returns-2 : tie.Need-returns-2 Inv-loop μ-loop
+returns-2 : tie.Need-returns-2
 returns-2 c =
-    let a = c .before .before .before .args in
-    let i = c .before .loop in
-    items-all (a .v) (now (a .list)) (i .i) (i .inv) (c .loop-test .left)
+    let k = c .before .before .before in
+    let a = c .before .before .before .before .before .args in
+    highest-fine (a .v) (k .highest .result) (now (a .list)) (k .highest .ensures) (omega arith) (sym (ap toldVerdict (c .enum-told2 .given .1)) ∙ c .before .before .judge-item .ensures)
 
 pub judge-items-spec : {M : Type 1} → statement M
 judge-items-spec =
     tie.close
     (tie.spec
-    Inv-loop
-    μ-loop
-    loop-holds
-    mul-judge-item
-    shared-slice-read-judge-item
+    highest-requires
     judge-item-requires
-    enum-known-why
-    returns
     enum-told
-    add-i
-    loop-less
-    loop-again
+    first-bad-requires
+    returns
+    enum-told-2
     returns-2)
