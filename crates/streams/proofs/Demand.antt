@@ -1,5 +1,5 @@
 -- Demand 3, over the calls: what is written is read back, and no claim is too large for its stream. Assumes nothing.
-use mathlib.Core.Path.{_≡_, refl, ap, ap₂, _∙_}
+use mathlib.Core.Path.{_≡_, refl, sym, ap, ap₂, _∙_}
 use mathlib.Core.Bool.{not, _&&_}
 use mathlib.Core.List.{List, [], _∷_, _++_}
 use Prim.Native.Nat.{ℕ, _*_, _^_, _≤_}
@@ -8,7 +8,7 @@ use borrow.Author.Tests.{eq-eqb, le-ltb, le-leb}
 use lib.Dec.{eqb, leb}
 use lib.ListN.{length, drop, length-append, length-drop}
 use lib.Pow.{pow-mono}
-use Rattle.refusals.specs.Outcome.{Outcome, accepted, ifAccepted, andThen}
+use Rattle.refusals.specs.Outcome.{Outcome, accepted, refused, ifAccepted, andThen}
 use Rattle.refusals.specs.Units.{wordsFor}
 use Rattle.refusals.proofs.Refusing.{both-accepted, took}
 use Rattle.numbers.specs.Calls.{outside}
@@ -43,6 +43,13 @@ module _ (book table : List ℕ) (lg : ℕ) (pairs : List ℕ) (g : Granted book
   writes out room =
       rw (le-ltb lg 4 (g .lg-least), le-ltb 26 lg (g .lg-most), eq-eqb (length book) 65 (g .book-size), table-checks book table (g .passes), le-ltb (2 ^ 28) (length pairs) (g .few))
       (rw (g .lawful, le-ltb (length out) (4 * wordsFor bits) room) refl)
+
+  -- so a writer that refuses such a list, as one that refuses every list does, breaks the promise
+  pub never-refused : (out : List ℕ) → 4 * wordsFor bits ≤ length out → (number place : ℕ) → writePairsOf book lg pairs out ≡ refused number place → ⊥
+  never-refused out room number place e =
+      let same : accepted (bits ∷ wordsFor bits ∷ []) ≡ refused number place = sym (writes out room) ∙ e in
+      let z : _≡_ {A = ℕ} 0 1 = cc in
+      omega arith
 
   left : (out : List ℕ) → 4 * wordsFor bits ≤ length out → pairsWritten book lg pairs out ≡ wordsInto (pairsCodes book (2 ^ lg) pairs) bits out
   left out room = ap (λ (o : Outcome). ifAccepted o (wordsInto (pairsCodes book (2 ^ lg) pairs) bits out) out) (writes out room)
