@@ -4,8 +4,8 @@ use std::env;
 use std::path::Path;
 
 fn main() {
-    let target = Path::new(&env::var("CARGO_MANIFEST_DIR").unwrap()).join("target");
-    let library = target.join("libbridgenook.a");
+    let folder = Path::new(&env::var("CARGO_MANIFEST_DIR").unwrap()).join("../build");
+    let library = folder.join("libbridgenook.a");
     println!("cargo::rerun-if-changed={}", library.display());
-    println!("cargo::rustc-link-search=native={}", target.display());
+    println!("cargo::rustc-link-search=native={}", folder.display());
 }
