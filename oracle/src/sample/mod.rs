@@ -4,6 +4,7 @@
 mod numbers;
 mod streams;
 mod tables;
+mod unions;
 
 use std::fmt::Display;
 use std::fs;
@@ -31,6 +32,13 @@ const TABLES_HEADING: &str = "\
 # its spare. The slots are the Rust's; the region beyond them and the spare are document 01's, since the Rust has none.
 ";
 
+const UNIONS_HEADING: &str = "\
+# Sketches of the Rust's own, counted, expanded, split, and merged into unions. A union is its configured lg_k, present
+# lg_k and seed, then its matrix; a source its lg_k, seed and coupons, then its window and its pairs. Windows, lists and
+# matrices are the Rust's; a window of a split without one, the rows past the present k and the first interesting column
+# are document 01's.
+";
+
 const LG_KS: [u8; 7] = [4, 5, 6, 10, 13, 20, 26];
 
 /// The first set is the one of the practice books.
@@ -41,6 +49,8 @@ pub fn write(path: &Path, practice: &BookSet) -> Result<()> {
     streams::write(&mut text, practice);
     text += TABLES_HEADING;
     tables::write(&mut text);
+    text += UNIONS_HEADING;
+    unions::write(&mut text);
     fs::write(path, text)
 }
 
