@@ -1,4 +1,4 @@
-/* Ways in which a copy of a sketch's file is wrong. Each is applied to a whole lawful file of a sketch with a window and a list. */
+/* Ways in which a copy of a sketch's file is wrong. Each is applied to a lawful file, with a window and a list. */
 #ifndef DAMAGES_H
 #define DAMAGES_H
 

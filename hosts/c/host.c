@@ -1,6 +1,6 @@
 /*
- * A host of Bridgenook in C. Four viewers count ticket numbers, each in a sketch of its own size, and put their sketches into
- * files. The wall's controller trusts no file: it reads them back, merges them, and tries damaged copies.
+ * A host of Bridgenook in C. Four viewers count ticket numbers, each in a sketch of its own size, and put their
+ * sketches into files. The wall's controller trusts no file: it reads them back, merges them, and tries damaged copies.
  *
  *     host FOLDER      the files are made in FOLDER
  *
@@ -9,7 +9,6 @@
 #include <inttypes.h>
 #include <stdio.h>
 #include <stdlib.h>
-#include <string.h>
 
 #include "damages.h"
 #include "sketch_file.h"
@@ -189,7 +188,9 @@ static void print_wall(const char *when, int number, const struct wall *wall)
 
 static void print_verdict(const char *name, struct verdict verdict)
 {
-    if (verdict.trouble != NULL) {
+    if (is_fine(verdict)) {
+        printf("%s: accepted\n", name);
+    } else if (verdict.trouble != NULL) {
         printf("%s: the host refuses, %s\n", name, verdict.trouble);
     } else {
         printf("%s: refused by %" PRIu32 ", place %" PRIu64 ", bit %" PRIu64 "\n", name, verdict.number, verdict.place,

@@ -56,7 +56,7 @@ bool is_fine(struct verdict verdict);
 struct verdict troubled(const char *trouble);
 struct verdict answered(uint32_t number, const uint64_t answer[8]);
 
-/* Memory for so many elements, never NULL, also for none: a lent part must not be NULL. Ends the program if there is none. */
+/* Memory for so many elements, also for none: never NULL, since no lent part may be. Without any the program ends. */
 void *reserve(size_t count, size_t size);
 
 void put_number(uint8_t *bytes, int count, uint64_t value);
