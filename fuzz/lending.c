@@ -102,7 +102,7 @@ void start_lending(enum placement where)
 {
     placement = where;
     lent = 0;
-    for (int i = 0; arenas[i].room == NULL && i < MOST_PARTS; i++) {
+    for (int i = 0; i < MOST_PARTS && arenas[i].room == NULL; i++) {
         make_arena(&arenas[i]);
     }
 }
