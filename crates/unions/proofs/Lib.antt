@@ -1,6 +1,7 @@
 -- Laws that belong to no one function.
 pub mod Answered
 pub mod EightBytes
+pub mod Flips
 pub mod HeldCounted
 pub mod JudgedSteps
 pub mod MergeTold

@@ -7,7 +7,7 @@ use Prim.Native.Nat.{ℕ, _^_, _≤_, _<_, min}
 use native.Mathlib.Nat.{min-eq-left, min-eq-right}
 use native.Mathlib.Omega.{arith}
 use borrow.Author.Tests.{lt-ltb, le-ltb}
-use lib.ListN.{length, getD, replicate, length-replicate}
+use lib.ListN.{length, getD}
 use lib.Pow.{pow-pos}
 use Rattle.laws.specs.Choose.{choose}
 use Rattle.laws.proofs.Orders.{lt-or-le}
@@ -20,7 +20,7 @@ use Rattle.matrices.specs.Shapes.{merged, folded}
 use Rattle.matrices.specs.Source.{expanded, hasWindow, held}
 use Rattle.matrices.proofs.Accepting.{held-wide, held-listed}
 use Rattle.matrices.proofs.Judged.{judged-row}
-use Rattle.matrices.proofs.MergeWhole.{pairs-end, merge-zeros, merge-folded, merge-unfolded}
+use Rattle.matrices.proofs.MergeWhole.{pairs-end, merge-folded, merge-unfolded}
 use Rattle.matrices.proofs.Rows.{length-matrix}
 use Rattle.unions.specs.Steps.{sourceMerged, pairsSet, lowered}
 
@@ -48,14 +48,6 @@ module _ (from c : ℕ) (window ps : List ℕ) (o : ℕ) (is : o ≡ offsetAt (2
       go : (w : Bool) → hasWindow (2 ^ from) c ≡ w → sourceMerged lg w o m window ps ≡ matrixOf (length m) (merged (2 ^ lg) (2 ^ from) m set)
       go true w = with-window lg m w
       go false w = without lg m w
-
-  -- into zeros of its own k
-  pub source-filled : (n : ℕ) → n ≡ 2 ^ from → sourceMerged from (hasWindow (2 ^ from) c) o (replicate n 0) window ps ≡ matrixOf (2 ^ from) set
-  source-filled n e =
-      source-merged from (replicate n 0)
-      ∙ ap (λ (k : ℕ). matrixOf k (merged (2 ^ from) (2 ^ from) (replicate n 0) set)) (length-replicate n 0 ∙ e)
-      ∙ ap (λ (k : ℕ). matrixOf (2 ^ from) (merged (2 ^ from) (2 ^ from) (replicate k 0) set)) e
-      ∙ merge-zeros (2 ^ from) set
 
   -- into a lawful union, folded first where its k is larger
   pub source-taken : (present : ℕ) (m : List ℕ) → ((r : ℕ) → 2 ^ present ≤ r → getD m r 0 ≡ 0)

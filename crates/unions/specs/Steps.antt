@@ -18,8 +18,8 @@ use Rattle.pair_lists.specs.Lists.{pairsJudged}
 use Rattle.matrices.specs.Calls.{wrongRows, offsetIn, windowIn, listed}
 use Rattle.matrices.specs.Matrix.{at, matrixOf, coupons, reserved}
 use Rattle.matrices.specs.Parts.{surpriseWord, surprisePairs, firstColumn}
-use Rattle.matrices.specs.Shapes.{folded, merged, joinedAt}
-use Rattle.matrices.specs.Source.{expanded, hasWindow, held}
+use Rattle.matrices.specs.Shapes.{folded, merged, joinedAt, Sorted}
+use Rattle.matrices.specs.Source.{expanded, hasWindow, held, columnsJudged}
 use Rattle.unions.specs.declared.planning.Plan.{Plan}
 use Rattle.unions.specs.declared.planning.Plan.the-variants as plan
 use Rattle.unions.specs.declared.planning.Shape.{Shape}
@@ -28,6 +28,18 @@ use Rattle.unions.specs.declared.splitting.Surprises.{Surprises}
 -- m, and the first n pairs of a list, their rows taken mod k
 abbrev pub pairsSet : ℕ → List ℕ → List ℕ → ℕ → ℕ → ℕ → Bool
 pairsSet k m ps n r c = at m r c || anyBelow n (λ i. eqb (getD ps i 0 / 64 % k) r && eqb c (getD ps i 0 % 64))
+
+-- the pairs of the list are in the first n rows
+pub record RowsBelow (ps : List ℕ) (n : ℕ) : Type 0 where
+  pub row : (i : ℕ) → i < length ps → getD ps i 0 / 64 < n
+
+-- a source that fits a matrix of so many rows
+pub record Fitting (n : ℕ) (s : Shape) (window ps : List ℕ) : Type 0 where
+  pub small : s .offset ≤ 61
+  pub long : length window ≡ choose (s .wide) n 0
+  pub sorted : Sorted ps
+  pub rows : RowsBelow ps n
+  pub apart : s .wide ≡ true → columnsJudged (s .offset) 0 ps ≡ accepted []
 
 -- from `start` on, no pair of the list is in a row before r
 pub record NoneBefore (ps : List ℕ) (start r : ℕ) : Type 0 where

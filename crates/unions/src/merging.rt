@@ -4,14 +4,13 @@
 ghost use mathlib.Core.Path.{_≡_};
 ghost use mathlib.Core.Bool.{_||_};
 ghost use Prim.Native.Nat.{_+_, _-_, _*_, _/_, _%_, _^_, _≤_, _<_, min};
-ghost use lib.ListN.{length, set, replicate};
+ghost use lib.ListN.{length, set};
 ghost use Rattle.laws.specs.Columns.{has, wordOf};
 ghost use Rattle.matrices.specs.Listing.{inList};
 ghost use Rattle.matrices.specs.Matrix.{at, matrixOf};
 ghost use Rattle.matrices.specs.Shapes.{folded, merged, Sorted, Between};
 ghost use Rattle.matrices.specs.Source.{expanded};
 ghost use Rattle.unions.specs.Steps.{pairsSet, sourceMerged, lowered, EndsAt, Stretched};
-use super::clearing::clear;
 use super::planning::Shape;
 use super::words::join;
 use super::words::or_words;
@@ -151,15 +150,6 @@ fn merge_source(matrix: &mut [u64], lg: u8, shape: Shape, window: &[u8], pairs: 
         return;
     }
     merge_pairs(matrix, lg, pairs);
-}
-
-// A source is written into a matrix of its own k.
-pub fn fill(matrix: &mut [u64], lg: u8, shape: Shape, window: &[u8], pairs: &[u32])
-    requires { ⌜ (lg ≤ 26) × (2 ^ lg ≤ length (now matrix)) × (length (now window) ≤ 67108864) × (shape .offset ≤ 61) × Sorted (now pairs) ⌝ }
-    ensures { λ _. ⌜ now (matrix .exit) ≡ sourceMerged lg (shape .wide) (shape .offset) (replicate (length (now (matrix .entry))) 0) (now (window .entry)) (now (pairs .entry)) ⌝ }
-{
-    clear(matrix);
-    merge_source(matrix, lg, shape, window, pairs);
 }
 
 // The matrix of a union is folded to a source's k where that is smaller.
