@@ -23,7 +23,7 @@ use Rattle.matrices.proofs.Inverse.{expanded-row}
 use Rattle.matrices.proofs.Lasting.{zeros-matrix}
 use Rattle.matrices.proofs.Places.{columns-apart}
 use Rattle.matrices.proofs.Rows.{at-matrix, matrix-is, matrix-same, set-matrix, put, put-same, put-other}
-use Rattle.matrices.proofs.SourceRows.{gathered}
+use Rattle.matrices.proofs.Members.{amongFirst}
 
 differs-none : (b : Bool) → differs b false ≡ b
 differs-none true = refl
@@ -51,7 +51,7 @@ bare-none n o window = zeros-matrix n
 
 -- m, and the first i pairs of the list flipped
 abbrev pub flippedTo : List ℕ → List ℕ → ℕ → ℕ → ℕ → Bool
-flippedTo m ps i r c = differs (at m r c) (gathered ps r i c)
+flippedTo m ps i r c = differs (at m r c) (amongFirst ps i (64 * r + c))
 
 module _ (m ps : List ℕ) where
   -- before the first pair
@@ -72,7 +72,7 @@ module _ (m ps : List ℕ) where
       ⊎-elim (λ (q : r ≡ row). put-same f row flipped r c q ∙ ap (λ (y : ℕ). differs (f y c) (eqb c x)) (sym q) ∙ in-row r c q)
       (λ (q : r ≡ row → ⊥).
       put-other f row flipped r c q
-      ∙ ap (differs (at m r c)) (sym (any-more i (hit r c) ∙ ap (λ (t : Bool). gathered ps r i c || t) (ne-eqb p (64 * r + c) (λ e. q (omega arith))) ∙ or-false (gathered ps r i c))))
+      ∙ ap (differs (at m r c)) (sym (any-more i (hit r c) ∙ ap (λ (t : Bool). amongFirst ps i (64 * r + c) || t) (ne-eqb p (64 * r + c) (λ e. q (omega arith))) ∙ or-false (amongFirst ps i (64 * r + c)))))
       (same-or-not r row))
     where
       n : ℕ
@@ -100,7 +100,7 @@ module _ (m ps : List ℕ) where
       in-row r c q =
           ⊎-elim
           (λ (e : c ≡ x).
-          let first : gathered ps r i c ≡ false = any-none i (hit r c) (λ j l. ne-eqb (getD ps j 0) (64 * r + c) (omega (arith, s .less j i l within))) in
+          let first : amongFirst ps i (64 * r + c) ≡ false = any-none i (hit r c) (λ j l. ne-eqb (getD ps j 0) (64 * r + c) (omega (arith, s .less j i l within))) in
           ap₂ (λ (t u : Bool). differs (differs (at m r c) t) u) first (eq-eqb c x e)
           ∙ ap (λ (t : Bool). differs t true) (differs-none (at m r c))
           ∙ ap (differs (at m r c)) (sym (any-more i (hit r c) ∙ ap₂ _||_ first (eq-eqb p (64 * r + c) (omega arith)))))
@@ -108,7 +108,7 @@ module _ (m ps : List ℕ) where
           ap (differs (f r c)) (ne-eqb c x e)
           ∙ differs-none (f r c)
           ∙ ap (differs (at m r c))
-          (sym (any-more i (hit r c) ∙ ap (λ (t : Bool). gathered ps r i c || t) (ne-eqb p (64 * r + c) (λ y. e (omega arith))) ∙ or-false (gathered ps r i c))))
+          (sym (any-more i (hit r c) ∙ ap (λ (t : Bool). amongFirst ps i (64 * r + c) || t) (ne-eqb p (64 * r + c) (λ y. e (omega arith))) ∙ or-false (amongFirst ps i (64 * r + c)))))
           (same-or-not c x)
 
   -- after the last one

@@ -1,5 +1,6 @@
 -- Laws that belong to no one function.
 pub mod Answered
+pub mod EarlyPairs
 pub mod EightBytes
 pub mod Flips
 pub mod HeldCounted
