@@ -34,6 +34,10 @@ earlySet o window ps r c = (inWindow o c && has (getD window r 0) (c - o)) || (l
 abbrev pub pairsSet : ℕ → ℕ → List ℕ → List ℕ → ℕ → ℕ → ℕ → Bool
 pairsSet k first m ps n r c = at m r c || anyBelow n (λ i. eqb (getD ps i 0 / 64 % k) r && (leb first c && eqb c (getD ps i 0 % 64)))
 
+-- the rows of m from k on are zero
+pub record ZeroFrom (k : ℕ) (m : List ℕ) : Type 0 where
+  pub zero : (r : ℕ) → k ≤ r → getD m r 0 ≡ 0
+
 -- the pairs of the list are in the first n rows
 pub record RowsBelow (ps : List ℕ) (n : ℕ) : Type 0 where
   pub row : (i : ℕ) → i < length ps → getD ps i 0 / 64 < n

@@ -3,7 +3,7 @@
 // lies, pairs come as an increasing list, and a row of a source is put together and ORed at once, so that no second matrix is built.
 ghost use mathlib.Core.Path.{_≡_};
 ghost use mathlib.Core.Bool.{_&&_, _||_};
-ghost use Prim.Native.Nat.{_+_, _-_, _*_, _/_, _%_, _^_, _≤_, _<_, min};
+ghost use Prim.Native.Nat.{_+_, _-_, _*_, _%_, _^_, _≤_, _<_, min};
 ghost use lib.Dec.{ltb};
 ghost use lib.ListN.{length, set};
 ghost use Rattle.laws.specs.Choose.{choose};
@@ -11,7 +11,7 @@ ghost use Rattle.laws.specs.Columns.{has, wordOf};
 ghost use Rattle.matrices.specs.Listing.{inList};
 ghost use Rattle.matrices.specs.Matrix.{at, matrixOf};
 ghost use Rattle.matrices.specs.Shapes.{folded, merged, Sorted};
-ghost use Rattle.unions.specs.Steps.{earlySet, pairsSet, sourceMerged, lowered, NoneBefore, EarlyFrom, NextEarly, EndsAt, Stretched};
+ghost use Rattle.unions.specs.Steps.{earlySet, pairsSet, sourceMerged, lowered, ZeroFrom, NoneBefore, EarlyFrom, NextEarly, EndsAt, Stretched};
 use super::planning::Shape;
 use super::words::join;
 use super::words::or_words;
@@ -19,13 +19,14 @@ use super::words::row_in;
 use super::words::with_column;
 use super::words::with_column_from;
 
-// The matrix is folded to its first 2^lg rows: the rows from there on become zero.
-fn fold(matrix: &mut [u64], lg: u8)
-    requires { ⌜ (lg ≤ 26) × (2 ^ lg ≤ length (now matrix)) ⌝ }
+// The matrix is folded to its first 2^lg rows: the rows from there on become zero, as those from 2^present on are.
+fn fold(matrix: &mut [u64], present: u8, lg: u8)
+    requires { ⌜ (lg ≤ present) × (present ≤ 26) × (2 ^ present ≤ length (now matrix)) × ZeroFrom (2 ^ present) (now matrix) ⌝ }
     ensures { λ _. ⌜ now (matrix .exit) ≡ matrixOf (length (now (matrix .entry))) (folded (2 ^ lg) (now (matrix .entry))) ⌝ }
 {
+    let end: usize = 1 << (present as u64);
     let mut s: usize = 1 << (lg as u64);
-    while s < matrix.len() {
+    while s < end {
         let t = row_in(s as u64, lg) as usize;
         let w = matrix[t];
         let v = matrix[s];
@@ -181,11 +182,11 @@ fn merge_source(matrix: &mut [u64], lg: u8, shape: Shape, window: &[u8], pairs: 
 
 // The matrix of a union is folded to a source's k where that is smaller.
 fn lower(matrix: &mut [u64], present: u8, from: u8) -> u8
-    requires { ⌜ (present ≤ 26) × (2 ^ present ≤ length (now matrix)) ⌝ }
+    requires { ⌜ (present ≤ 26) × (2 ^ present ≤ length (now matrix)) × ZeroFrom (2 ^ present) (now matrix) ⌝ }
     ensures { λ r. ⌜ (r ≡ min present from) × (now (matrix .exit) ≡ lowered present from (now (matrix .entry))) ⌝ }
 {
     if from < present {
-        fold(matrix, from);
+        fold(matrix, present, from);
         return from;
     }
     present
@@ -200,7 +201,7 @@ pub fn take_in(
     window: &[u8],
     pairs: &[u32],
 ) -> u8
-    requires { ⌜ (present ≤ 26) × (2 ^ present ≤ length (now matrix)) × (length (now window) ≤ 67108864) × (shape .offset ≤ 61) × Sorted (now pairs) ⌝ }
+    requires { ⌜ (present ≤ 26) × (2 ^ present ≤ length (now matrix)) × ZeroFrom (2 ^ present) (now matrix) × (length (now window) ≤ 67108864) × (shape .offset ≤ 61) × Sorted (now pairs) ⌝ }
     ensures { λ r. ⌜ (r ≡ min present from) × (now (matrix .exit) ≡ sourceMerged (min present from) (shape .wide) (shape .offset) (lowered present from (now (matrix .entry))) (now (window .entry)) (now (pairs .entry))) ⌝ }
 {
     let lg = lower(matrix, present, from);

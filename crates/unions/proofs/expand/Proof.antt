@@ -5,7 +5,6 @@ use mathlib.Core.List.{[]}
 use Prim.Native.Nat.{ℕ, _^_}
 use native.Mathlib.Omega.{arith}
 use denote.Ref.{now}
-use lib.ListN.{length}
 use Rattle.laws.specs.Choose.{choose}
 use Rattle.refusals.specs.Outcome.{Outcome, accepted, ifAccepted}
 use Rattle.matrices.specs.Calls.{expandOf}

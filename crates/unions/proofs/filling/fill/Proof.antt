@@ -1,15 +1,13 @@
 -- `unions::filling::fill` meets its contract. Assumes nothing.
 use borrow.Author.Needs.{needs}
-use mathlib.Core.Path.{_≡_, sym, ap, ap₂, _∙_, subst}
-use mathlib.Core.Bool.{Bool}
-use mathlib.Core.List.{List, []}
+use mathlib.Core.Path.{sym, ap₂, _∙_, subst}
+use mathlib.Core.List.{List}
 use Prim.Native.Nat.{ℕ, _+_, _*_}
 use denote.Ref.{now}
 use lib.ListN.{length}
 use Rattle.laws.specs.Columns.{differs}
 use Rattle.matrices.specs.Listing.{inList}
 use Rattle.matrices.specs.Matrix.{at, matrixOf}
-use Rattle.matrices.specs.Source.{sourceSet}
 use Rattle.unions.specs.Steps.{RowsBelow}
 use Rattle.unions.proofs.Flips.{flipped-source}
 use Rattle.unions.proofs.filling.fill.Statement.{statement}

@@ -1,10 +1,10 @@
 -- `unions::merging::early_pairs` meets its contract. Assumes nothing.
 use borrow.Author.Needs.{needs}
 use mathlib.Core.Path.{_≡_, sym, subst}
-use Prim.Native.Nat.{ℕ, _+_, _*_, _-_, _≤_, _<_}
+use Prim.Native.Nat.{_+_, _*_, _-_, _≤_, _<_}
 use native.Mathlib.Omega.{arith}
 use denote.Ref.{now}
-use lib.ListN.{length, getD}
+use lib.ListN.{length}
 use Rattle.unions.proofs.EarlyPairs.{Taken, take-start, take-turn, take-end}
 use Rattle.unions.proofs.merging.early_pairs.Statement.{statement}
 use Rattle.unions.proofs.merging.early_pairs.Tie as tie

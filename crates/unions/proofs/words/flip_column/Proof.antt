@@ -1,7 +1,7 @@
 -- `unions::words::flip_column` meets its contract. Assumes nothing.
 use borrow.Author.Needs.{needs}
 use mathlib.Core.Path.{_∙_, ap}
-use Prim.Native.Nat.{ℕ, _^_}
+use Prim.Native.Nat.{_^_}
 use lib.Bits.{bitXor, xor-lt}
 use lib.Pow.{pow-lt}
 use Rattle.laws.specs.Columns.{has, differs}
