@@ -1,4 +1,4 @@
--- The loop that folds a matrix to k rows: where it starts, a turn, and where it ends. Assumes nothing.
+-- The loop that folds a matrix to k rows: where it starts, and a turn; it ends by `fold-short`. Assumes nothing.
 use mathlib.Core.Path.{_≡_, refl, sym, ap, ap₂, _∙_}
 use mathlib.Core.Logic.{⊎-elim}
 use mathlib.Core.Bool.{Bool, false, _&&_, _||_}
@@ -17,7 +17,6 @@ use Rattle.laws.proofs.Orders.{lt-or-le, same-or-not}
 use Rattle.laws.proofs.Truths.{or-false}
 use Rattle.laws.proofs.Words.{wordOf-same, wordOf-none}
 use Rattle.matrices.specs.Matrix.{at, matrixOf}
-use Rattle.matrices.specs.Shapes.{folded}
 use Rattle.matrices.proofs.Rows.{at-matrix, matrix-is, matrix-same, set-matrix, put, put-same, put-other}
 
 -- the rows below s are folded into the first k: those from k to s are empty, and those from s on as they were
@@ -52,14 +51,6 @@ module _ (m : List ℕ) (k : ℕ) where
       (partly-low k r c g
       ∙ any-same k (falls r c) (λ t. eqb t r && at m t c) (λ t u. ap (λ (x : ℕ). eqb x r && at m t c) (mod-eq-of-lt u))
       ∙ any-one k r (λ t. at m t c) g)) (λ (g : k ≤ r). sym (partly-rest k r c g g)) (lt-or-le r k))
-
-  -- after the last: the matrix is folded
-  pub fold-end : matrixOf (length m) (partly k (length m) m) ≡ matrixOf (length m) (folded k m)
-  fold-end =
-      matrix-same (length m) (partly k (length m) m) (folded k m)
-      (λ r c h b.
-      ⊎-elim (λ (g : r < k). partly-low (length m) r c g ∙ sym (rw (lt-ltb r k g) refl))
-      (λ (g : k ≤ r). partly-past (length m) r c g h ∙ sym (rw (le-ltb r k g) refl)) (lt-or-le r k))
 
   -- a turn: row s joins row s mod k, and becomes empty
   module _ (pos : 0 < k) (s : ℕ) (ks : k ≤ s) where

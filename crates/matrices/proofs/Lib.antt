@@ -6,7 +6,6 @@ pub mod Folding
 pub mod Counting
 pub mod Merging
 pub mod Modulo
-pub mod SourceRows
 pub mod Joined
 pub mod Listed
 pub mod ListTurn

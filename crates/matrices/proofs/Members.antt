@@ -17,6 +17,10 @@ use Rattle.laws.proofs.Truths.{or-false, or-assoc, and-true, and-false}
 use Rattle.matrices.specs.Listing.{only, listFrom, inList}
 use Rattle.matrices.specs.Shapes.{Sorted, Between}
 
+-- p is one of the first i pairs
+abbrev pub amongFirst : List ℕ → ℕ → ℕ → Bool
+amongFirst ps i p = anyBelow i (λ j. eqb (getD ps j 0) p)
+
 any-shift : (n : ℕ) (f : ℕ → Bool) → anyBelow (suc n) f ≡ (f 0 || anyBelow n (λ i. f (suc i)))
 unfolding anyBelow
 any-shift zero f = sym (or-false (f 0))

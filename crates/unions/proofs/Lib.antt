@@ -1,6 +1,8 @@
 -- Laws that belong to no one function.
 pub mod Answered
+pub mod EarlyPairs
 pub mod EightBytes
+pub mod Flips
 pub mod HeldCounted
 pub mod JudgedSteps
 pub mod MergeTold

@@ -1,21 +1,17 @@
--- Stretches of rows without a pair. Assumes nothing.
-use mathlib.Core.Path.{_≡_, refl, ap, _∙_, subst}
+-- Stretches of rows that are their window bytes. Assumes nothing.
+use mathlib.Core.Path.{_≡_, refl, ap, _∙_}
 use mathlib.Core.Bool.{Bool, _||_}
 use mathlib.Core.List.{List}
-use Prim.Native.Nat.{ℕ, _+_, _-_, _*_, _/_, _%_, _≤_, _<_}
+use Prim.Native.Nat.{ℕ, _+_, _*_, _/_, _%_, _≤_, _<_}
 use native.Mathlib.Nat.{mod-add-div'}
 use native.Mathlib.Omega.{arith}
 use lib.Arith.{digits-mod}
 use lib.ListN.{length, getD, set, length-set}
 use Rattle.laws.specs.Columns.{has, wordOf}
-use Rattle.matrices.specs.Listing.{inList}
 use Rattle.matrices.specs.Matrix.{at, matrixOf}
-use Rattle.matrices.specs.Shapes.{merged, joinedAt, Between}
-use Rattle.matrices.specs.Source.{expanded}
-use Rattle.matrices.proofs.Joined.{join-expanded}
+use Rattle.matrices.specs.Shapes.{merged, joinedAt}
 use Rattle.matrices.proofs.Merging.{merge-turn}
-use Rattle.matrices.proofs.SourceRows.{gather-start, gather-end}
-use Rattle.unions.specs.Steps.{NoneBefore, Stretched}
+use Rattle.unions.specs.Steps.{Stretched}
 
 -- rows that follow each other fall on rows that follow each other, up to k
 pub falls-next : (k row d : ℕ) → row % k + d < k → (row + d) % k ≡ row % k + d
@@ -39,17 +35,3 @@ module _ (k o : ℕ) (window : List ℕ) (from : ℕ) (before : List ℕ) where
         ∙ merge-turn m k pos src r (omega arith) (λ c. at (matrixOf (length m) (merged k r m src)) (r % k) c || has (joinedAt o (getD window r 0) 0) c)
         (λ c d. ap (λ (b : Bool). at (matrixOf (length m) (merged k r m src)) (r % k) c || b) (same r c l (omega arith) d));
   }
-
--- a row without pairs is its window byte
-module _ (ps : List ℕ) (start from to : ℕ) (b : Between ps start (64 * from) (64 * from)) (n : NoneBefore ps start to) where
-  pub stretch-between : (r : ℕ) → from ≤ r → r ≤ to → Between ps start (64 * r) (64 * r)
-  stretch-between r h l = record { within = b .within; before = λ i g. omega (arith, b .before i g); after = λ i g f. omega (arith, n .none i g f) }
-
-  no-pairs : (r : ℕ) → from ≤ r → r < to → 0 ≡ wordOf 64 (λ c. inList ps (64 * r + c))
-  no-pairs r h l =
-      let next : 64 * (r + 1) ≡ 64 * r + 64 = omega arith in
-      gather-start ps r start (stretch-between r h (omega arith))
-      ∙ gather-end ps r start (subst (λ (x : ℕ). Between ps start x x) next (stretch-between (r + 1) (omega arith) (omega arith)))
-
-  pub window-row : (o : ℕ) (window : List ℕ) (r c : ℕ) → from ≤ r → r < to → c < 64 → has (joinedAt o (getD window r 0) 0) c ≡ expanded o window ps r c
-  window-row o window r c h l d = join-expanded o window ps r 0 c (no-pairs r h l) d

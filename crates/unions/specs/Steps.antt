@@ -1,10 +1,10 @@
 -- How private contracts say it: what is judged so far, and work half done. Nothing here has to be believed. Assumes nothing.
 use mathlib.Core.Path.{_≡_}
-use Prim.Native.Nat.{ℕ, _+_, _*_, _/_, _%_, _^_, _≤_, _<_}
+use Prim.Native.Nat.{ℕ, _+_, _-_, _*_, _/_, _%_, _^_, _≤_, _<_}
 use mathlib.Core.Bool.{Bool, true, not, _&&_, _||_}
 use mathlib.Core.List.{List, [], _∷_}
 use lib.Count.{trailingZeros}
-use lib.Dec.{eqb, ltb}
+use lib.Dec.{eqb, leb, ltb}
 use lib.ListN.{length, getD}
 use Rattle.laws.specs.Below.{anyBelow, everyBelow}
 use Rattle.laws.specs.Choose.{choose}
@@ -16,24 +16,58 @@ use Rattle.numbers.specs.Numbers.{flavorAt, offsetAt}
 use Rattle.numbers.specs.Told.{flavorNumber}
 use Rattle.pair_lists.specs.Lists.{pairsJudged}
 use Rattle.matrices.specs.Calls.{wrongRows, offsetIn, windowIn, listed}
-use Rattle.matrices.specs.Matrix.{at, matrixOf, coupons, reserved}
+use Rattle.matrices.specs.Listing.{inList}
+use Rattle.matrices.specs.Matrix.{at, matrixOf, coupons, reserved, inWindow}
 use Rattle.matrices.specs.Parts.{surpriseWord, surprisePairs, firstColumn}
-use Rattle.matrices.specs.Shapes.{folded, merged, joinedAt}
-use Rattle.matrices.specs.Source.{expanded, hasWindow, held}
+use Rattle.matrices.specs.Shapes.{folded, merged, joinedAt, Sorted}
+use Rattle.matrices.specs.Source.{hasWindow, held, columnsJudged}
 use Rattle.unions.specs.declared.planning.Plan.{Plan}
 use Rattle.unions.specs.declared.planning.Plan.the-variants as plan
 use Rattle.unions.specs.declared.planning.Shape.{Shape}
 use Rattle.unions.specs.declared.splitting.Surprises.{Surprises}
 
--- m, and the first n pairs of a list, their rows taken mod k
-abbrev pub pairsSet : ℕ → List ℕ → List ℕ → ℕ → ℕ → ℕ → Bool
-pairsSet k m ps n r c = at m r c || anyBelow n (λ i. eqb (getD ps i 0 / 64 % k) r && eqb c (getD ps i 0 % 64))
+-- a source with a window, but for its late pairs, those past the window: below the window each column but those of the listed pairs
+abbrev pub earlySet : ℕ → List ℕ → List ℕ → ℕ → ℕ → Bool
+earlySet o window ps r c = (inWindow o c && has (getD window r 0) (c - o)) || (ltb c o && not (inList ps (64 * r + c)))
+
+-- m, and of the first n pairs of a list those from column `first` on, their rows taken mod k
+abbrev pub pairsSet : ℕ → ℕ → List ℕ → List ℕ → ℕ → ℕ → ℕ → Bool
+pairsSet k first m ps n r c = at m r c || anyBelow n (λ i. eqb (getD ps i 0 / 64 % k) r && (leb first c && eqb c (getD ps i 0 % 64)))
+
+-- the rows of m from k on are zero
+pub record ZeroFrom (k : ℕ) (m : List ℕ) : Type 0 where
+  pub zero : (r : ℕ) → k ≤ r → getD m r 0 ≡ 0
+
+-- the pairs of the list are in the first n rows
+pub record RowsBelow (ps : List ℕ) (n : ℕ) : Type 0 where
+  pub row : (i : ℕ) → i < length ps → getD ps i 0 / 64 < n
+
+-- a source that fits a matrix of so many rows
+pub record Fitting (n : ℕ) (s : Shape) (window ps : List ℕ) : Type 0 where
+  pub small : s .offset ≤ 61
+  pub long : length window ≡ choose (s .wide) n 0
+  pub sorted : Sorted ps
+  pub rows : RowsBelow ps n
+  pub apart : s .wide ≡ true → columnsJudged (s .offset) 0 ps ≡ accepted []
 
 -- from `start` on, no pair of the list is in a row before r
 pub record NoneBefore (ps : List ℕ) (start r : ℕ) : Type 0 where
   pub none : (i : ℕ) → start ≤ i → i < length ps → 64 * r ≤ getD ps i 0
 
--- a stretch without a pair ends at the last row, or before it at the first row with one
+-- the early pairs of the list, those below the window: before `start` in rows before r, and from there on in none of them
+pub record EarlyFrom (o : ℕ) (ps : List ℕ) (start r : ℕ) : Type 0 where
+  pub within : start ≤ length ps
+  pub before : (i : ℕ) → i < start → getD ps i 0 % 64 < o → getD ps i 0 < 64 * r
+  pub after : (i : ℕ) → start ≤ i → i < length ps → getD ps i 0 % 64 < o → 64 * r ≤ getD ps i 0
+
+-- the next early pair from `start` on, or the end of the list
+pub record NextEarly (o : ℕ) (ps : List ℕ) (start n : ℕ) : Type 0 where
+  pub within : n ≤ length ps
+  pub least : start ≤ n
+  pub none : (i : ℕ) → start ≤ i → i < n → o ≤ getD ps i 0 % 64
+  pub here : n < length ps → getD ps n 0 % 64 < o
+
+-- a stretch ends at the last row, or before it at the first row with a pair from `start` on
 pub record EndsAt (ps : List ℕ) (start last r : ℕ) : Type 0 where
   pub most : r ≤ last
   pub before : NoneBefore ps start r
@@ -45,10 +79,10 @@ pub record Stretched (k o : ℕ) (window : List ℕ) (from to : ℕ) (before aft
   pub rows : (m : List ℕ) (src : ℕ → ℕ → Bool) → ((r c : ℕ) → from ≤ r → r < to → c < 64 → has (joinedAt o (getD window r 0) 0) c ≡ src r c) → length m ≡ length before
       → before ≡ matrixOf (length m) (merged k from m src) → after ≡ matrixOf (length m) (merged k to m src)
 
--- m, and a source, its rows taken mod 2^lg: row by row if it has a window, else pair by pair
+-- m, and a source, its rows taken mod 2^lg: by rows, as many as its window has, and then the late pairs, or all where there is no window
 abbrev pub sourceMerged : ℕ → Bool → ℕ → List ℕ → List ℕ → List ℕ → List ℕ
 sourceMerged lg wide o m window ps =
-    choose wide (matrixOf (length m) (merged (2 ^ lg) (length window) m (expanded o window ps))) (matrixOf (length m) (pairsSet (2 ^ lg) m ps (length ps)))
+    matrixOf (length m) (pairsSet (2 ^ lg) (choose wide (o + 8) 0) (matrixOf (length m) (merged (2 ^ lg) (length window) m (earlySet o window ps))) ps (length ps))
 
 -- m, folded to 2^from rows where that is less than 2^present
 abbrev pub lowered : ℕ → ℕ → List ℕ → List ℕ

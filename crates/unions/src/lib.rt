@@ -7,6 +7,7 @@ ghost use Rattle.unions.specs.Told.{toldCount, toldSplit, toldExpand, to
 
 mod clearing;
 mod counting;
+mod filling;
 mod judging;
 mod merging;
 mod planning;
@@ -114,7 +115,7 @@ pub fn expand(
     match planning::judge_expansion(lg, coupons, matrix.len(), window, pairs) {
         Plan::Refused(why) => ExpandAnswer::Refused(why),
         Plan::Take(shape) => {
-            merging::fill(matrix, lg, shape, window, pairs);
+            filling::fill(matrix, shape, window, pairs);
             ExpandAnswer::Expanded
         }
     }

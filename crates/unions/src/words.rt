@@ -24,6 +24,25 @@ pub fn with_column(w: u64, j: u64) -> u64
     w | (1 << j)
 }
 
+// The columns of w, and column j if it is not before `first`.
+pub fn with_column_from(w: u64, j: u64, first: u64) -> u64
+    requires { ⌜ j < 64 ⌝ }
+    ensures { λ r. ⌜ r ≡ wordOf 64 (λ c. has w c || (leb first c && eqb c j)) ⌝ }
+{
+    if j < first {
+        return w;
+    }
+    with_column(w, j)
+}
+
+// The columns of w, column j flipped.
+pub fn flip_column(w: u64, j: u64) -> u64
+    requires { ⌜ j < 64 ⌝ }
+    ensures { λ r. ⌜ r ≡ wordOf 64 (λ c. differs (has w c) (eqb c j)) ⌝ }
+{
+    w ^ (1 << j)
+}
+
 // The columns of w, and those of the window byte b, which starts at column o. What b has past column 63 is lost.
 fn with_window(w: u64, b: u8, o: u64) -> u64
     requires { ⌜ o < 64 ⌝ }

@@ -1,22 +1,20 @@
 -- `unions::expand` meets its contract. Assumes nothing.
-use mathlib.Core.Path.{_≡_, sym, ap, _∙_, subst}
+use mathlib.Core.Path.{_≡_, sym, ap, ap₂, _∙_, subst}
 use mathlib.Core.Bool.{Bool}
 use mathlib.Core.List.{[]}
-use Prim.Native.Nat.{_^_, _≤_}
+use Prim.Native.Nat.{ℕ, _^_}
 use native.Mathlib.Omega.{arith}
 use denote.Ref.{now}
-use lib.ListN.{length, replicate}
-use lib.Pow.{pow-mono}
+use Rattle.laws.specs.Choose.{choose}
 use Rattle.refusals.specs.Outcome.{Outcome, accepted, ifAccepted}
 use Rattle.matrices.specs.Calls.{expandOf}
 use Rattle.matrices.specs.Matrix.{matrixOf}
-use Rattle.matrices.specs.Source.{hasWindow, held}
+use Rattle.matrices.specs.Source.{sourceSet, held, columnsJudged}
 use Rattle.matrices.proofs.Answered.{Expanded, expand-accepted}
-use Rattle.matrices.proofs.Judged.{judged-sorted}
-use Rattle.unions.specs.Steps.{PlannedBy, ShapeOf, sourceMerged}
+use Rattle.matrices.proofs.Judged.{judged-sorted, judged-row}
+use Rattle.unions.specs.Steps.{PlannedBy, ShapeOf}
 use Rattle.unions.proofs.Answered.{kept-as}
 use Rattle.unions.proofs.PlanSteps.{expand-chain}
-use Rattle.unions.proofs.SourceTaken.{source-filled, window-short}
 use borrow.Author.Needs.{needs}
 use Rattle.unions.proofs.expand.Statement.{statement}
 use Rattle.unions.proofs.expand.Tie as tie
@@ -54,13 +52,13 @@ fill-requires c κs =
     let a = begun s .args in
     let p = planned s .1 in
     let f = found s in
-    let most : 2 ^ a .lg ≤ 2 ^ 26 = pow-mono (p .high) in (
-      p .high,
-      omega (arith, f .rows),
-      window-short (length (now (a .window))) (2 ^ a .lg) (hasWindow (2 ^ a .lg) (a .coupons)) (f .bytes) (omega arith),
-      p .small,
-      judged-sorted (2 ^ a .lg) (now (a .pairs)) (f .source .pairs),
-    )
+    record {
+      small = p .small;
+      long = f .bytes ∙ ap₂ (λ (b : Bool) (k : ℕ). choose b k 0) (sym (p .wide)) (sym (f .rows));
+      sorted = judged-sorted (2 ^ a .lg) (now (a .pairs)) (f .source .pairs);
+      rows = record { row = λ i h. omega (arith, judged-row (2 ^ a .lg) (now (a .pairs)) (f .source .pairs) i h, f .rows) };
+      apart = λ w. ap (λ (o : ℕ). columnsJudged o 0 (now (a .pairs))) (p .offset) ∙ f .source .places (sym (p .wide) ∙ w) .1;
+    }
 
 returns : tie.Need-returns
 returns c =
@@ -73,6 +71,7 @@ same-length : tie.Need-same-length
 same-length c = search needs
 
 returns-2 : tie.Need-returns-2
+unfolding held
 returns-2 c =
     let w = c .before .before in
     let s = w .before .before .before in
@@ -83,8 +82,7 @@ returns-2 c =
     let set = matrixOf k (held k (a .coupons) (now (a .window)) (now (a .pairs))) in (
       sym (p .0),
       w .fill .ensures
-          ∙ ap (λ (b : Bool). sourceMerged (a .lg) b (s .shape .given .0 .0 .offset) (replicate (length (now (a .matrix))) 0) (now (a .window)) (now (a .pairs))) (p .1 .wide)
-          ∙ source-filled (a .lg) (a .coupons) (now (a .window)) (now (a .pairs)) (s .shape .given .0 .0 .offset) (p .1 .offset) (f .source .pairs) (f .bytes) (length (now (a .matrix))) (f .rows)
+          ∙ ap₂ (λ (n : ℕ) (f : ℕ → ℕ → Bool). matrixOf n f) (f .rows) (ap₂ (λ (b : Bool) (o : ℕ). sourceSet b o (now (a .window)) (now (a .pairs))) (p .1 .wide) (p .1 .offset))
           ∙ sym (ap (λ (o : Outcome). ifAccepted o set (now (a .matrix))) (p .0)),
     )
 

@@ -71,6 +71,7 @@ take-in-requires c κs =
     let most : 2 ^ a .source .lg ≤ 2 ^ 26 = pow-mono (p .high) in (
       omega (arith, u .most),
       omega (arith, f .rows),
+      record { zero = u .rest },
       window-short (length (now (a .window))) (2 ^ a .source .lg) (hasWindow (2 ^ a .source .lg) (a .source .coupons)) (f .bytes) (omega arith),
       p .small,
       judged-sorted (2 ^ a .source .lg) (now (a .pairs)) (f .source .pairs),

@@ -7,7 +7,6 @@ use native.Mathlib.Omega.{arith}
 use denote.Ref.{now}
 use borrow.Author.Tests.{lt-ltb, le-ltb}
 use lib.ListN.{length}
-use lib.Pow.{pow-mono}
 use Rattle.laws.specs.Choose.{choose}
 use Rattle.matrices.specs.Matrix.{matrixOf}
 use Rattle.matrices.specs.Shapes.{folded}
@@ -18,8 +17,7 @@ use Rattle.unions.proofs.merging.lower.Tie as tie
 fold-requires : tie.Need-fold-requires
 fold-requires c κs =
     let s = c .before .before .before in
-    let p : 2 ^ s .args .from ≤ 2 ^ s .args .present = pow-mono (omega (arith, c .before .if1 .taken)) in
-    (omega (arith, c .before .if1 .taken, s .pre .0), omega (arith, p, s .pre .1))
+    (omega (arith, c .before .if1 .taken), s .pre .0, s .pre .1, s .pre .2)
 
 same-length : tie.Need-same-length
 same-length c = search needs

@@ -1,25 +1,24 @@
 -- `unions::merging::merge_rows` meets its contract. Assumes nothing.
-use mathlib.Core.Path.{_≡_, sym, _∙_, ap, subst}
+use mathlib.Core.Path.{_≡_, sym, _∙_, ap}
 use mathlib.Core.Bool.{Bool, _||_}
 use mathlib.Core.List.{List}
-use Prim.Native.Nat.{ℕ, _+_, _*_, _-_, _%_, _^_, _≤_, _<_}
+use Prim.Native.Nat.{ℕ, _-_, _%_, _^_, _≤_, _<_}
 use native.Mathlib.Omega.{arith}
 use denote.Ref.{now}
 use lib.ListN.{length, set}
 use lib.Pow.{pow-pos}
 use Rattle.laws.specs.Columns.{has, wordOf}
 use Rattle.matrices.specs.Matrix.{at, matrixOf}
-use Rattle.matrices.specs.Shapes.{merged, Between}
-use Rattle.matrices.specs.Source.{expanded}
+use Rattle.matrices.specs.Shapes.{merged}
 use Rattle.matrices.proofs.Merging.{merge-start, merge-turn}
-use Rattle.matrices.proofs.Joined.{join-expanded, between-first}
-use Rattle.unions.proofs.Stretches.{stretch-between, window-row}
+use Rattle.unions.specs.Steps.{earlySet, EarlyFrom}
+use Rattle.unions.proofs.EarlyPairs.{join-early, early-first, early-none, early-reach, early-rows}
 use Rattle.unions.proofs.merging.merge_rows.Statement.{statement}
 use Rattle.unions.proofs.merging.merge_rows.Tie as tie
 
 abbrev Inv-loop : tie.InvT-loop
 Inv-loop matrix₀ lg offset window pairs start₀ r₀ matrix start r =
-    (r ≤ length window) × (length matrix ≡ length matrix₀) × Between pairs start (64 * r) (64 * r) × (matrix ≡ matrixOf (length matrix₀) (merged (2 ^ lg) r matrix₀ (expanded offset window pairs)))
+    (r ≤ length window) × (length matrix ≡ length matrix₀) × EarlyFrom offset pairs start r × (matrix ≡ matrixOf (length matrix₀) (merged (2 ^ lg) r matrix₀ (earlySet offset window pairs)))
 
 abbrev μ-loop : tie.MeasureT-loop
 μ-loop matrix₀ lg offset window pairs start₀ r₀ matrix start r = length window - r
@@ -29,35 +28,46 @@ loop-holds c =
     let a = c .before .before .before .args in (
       omega arith,
       omega arith,
-      between-first (now (a .pairs)),
-      merge-start (now (a .matrix)) (2 ^ a .lg) (pow-pos (a .lg)) (expanded (a .offset) (now (a .window)) (now (a .pairs))) (λ r. c .before .before .slice-known .given r .fits),
+      early-first (a .offset) (now (a .pairs)),
+      merge-start (now (a .matrix)) (2 ^ a .lg) (pow-pos (a .lg)) (earlySet (a .offset) (now (a .window)) (now (a .pairs))) (λ r. c .before .before .slice-known .given r .fits),
     )
+
+next-early-requires : tie.Need-next-early-requires Inv-loop μ-loop
+next-early-requires c κs = c .before .loop .inv .2 .within
 
 last-row-requires : tie.Need-last-row-requires Inv-loop μ-loop
 last-row-requires c κs =
-    let s = c .before .before .before .before .before in
-    (s .pre .0, omega (arith, c .loop-test), s .pre .2)
+    let s = c .before .before .before .before .before .before in
+    (s .pre .0, omega (arith, c .before .loop-test), s .pre .2)
 
 stretch-end-requires : tie.Need-stretch-end-requires Inv-loop μ-loop
-stretch-end-requires c κs = c .before .before .before .before .before .before .pre .4
+stretch-end-requires c κs = c .before .before .before .before .before .before .before .pre .4
 
 -- where the stretch ends
 abbrev head : tie.After-stretch-end Inv-loop μ-loop → tie.At-loop Inv-loop μ-loop
-head c = c .before .before .before
+head c = c .before .before .before .before
 
 abbrev begun : tie.After-stretch-end Inv-loop μ-loop → tie.Start Inv-loop μ-loop
-begun c = c .before .before .before .before .before .before .before
+begun c = head c .before .before .before .before
+
+abbrev next : tie.After-stretch-end Inv-loop μ-loop → ℕ
+next c = c .before .before .next-early .result
 
 least : (c : tie.After-stretch-end Inv-loop μ-loop) → head c .loop .r ≤ c .stretch-end .result
-least c = c .stretch-end .ensures .least (head c .loop .r) (c .before .last-row .ensures .0) (record { none = head c .loop .inv .2 .after })
+least c =
+    let a = begun c .args in
+    let l = head c .loop in
+    c .stretch-end .ensures .least (l .r) (c .before .last-row .ensures .0)
+    (early-none (a .offset) (now (a .pairs)) (l .start) (next c) (l .r) (l .inv .2) (c .before .before .next-early .ensures) (begun c .pre .4))
 
 below : (c : tie.After-stretch-end Inv-loop μ-loop) → c .stretch-end .result < length (now (begun c .args .window))
 below c = omega (arith, c .stretch-end .ensures .most, c .before .last-row .ensures .1)
 
-between : (c : tie.After-stretch-end Inv-loop μ-loop) → Between (now (begun c .args .pairs)) (head c .loop .start) (64 * c .stretch-end .result) (64 * c .stretch-end .result)
-between c =
+reached : (c : tie.After-stretch-end Inv-loop μ-loop) → EarlyFrom (begun c .args .offset) (now (begun c .args .pairs)) (next c) (c .stretch-end .result)
+reached c =
+    let a = begun c .args in
     let l = head c .loop in
-    stretch-between (now (begun c .args .pairs)) (l .start) (l .r) (c .stretch-end .result) (l .inv .2) (c .stretch-end .ensures .before) (c .stretch-end .result) (least c) (omega arith)
+    early-reach (a .offset) (now (a .pairs)) (l .start) (next c) (l .r) (l .inv .2) (c .before .before .next-early .ensures) (c .stretch-end .result) (least c) (c .stretch-end .ensures .before)
 
 merge-stretch-requires : tie.Need-merge-stretch-requires Inv-loop μ-loop
 merge-stretch-requires c κs =
@@ -72,10 +82,10 @@ merge-stretch-requires c κs =
       s .pre .3,
     )
 
-row-pairs-requires : tie.Need-row-pairs-requires Inv-loop μ-loop
-row-pairs-requires c κs =
+early-pairs-requires : tie.Need-early-pairs-requires Inv-loop μ-loop
+early-pairs-requires c κs =
     let e = c .before .before .before .before in
-    (omega (arith, below e, begun e .pre .2), begun e .pre .4, between e)
+    (omega (arith, below e, begun e .pre .2), begun e .pre .3, begun e .pre .4, e .stretch-end .ensures .before, reached e)
 
 shared-slice-read-join : tie.Need-shared-slice-read-join Inv-loop μ-loop
 shared-slice-read-join c = below (c .before .before .before .before .before .before .before)
@@ -109,21 +119,21 @@ loop-again c =
     let ps = now (a .pairs) in
     let k = 2 ^ a .lg in
     let stop = e .stretch-end .result in
-    let src : ℕ → ℕ → Bool = expanded (a .offset) (now (a .window)) ps in
+    let src : ℕ → ℕ → Bool = earlySet (a .offset) (now (a .window)) ps in
     let word = j .join .result in
-    let next : 64 * stop + 64 ≡ 64 * (stop + 1) = omega arith in
     let stretched : t .merge-stretch .last .0 ≡ matrixOf (length m) (merged k stop m src) =
-    t .merge-stretch .ensures .rows m src (window-row ps (l .start) (l .r) stop (l .inv .2) (e .stretch-end .ensures .before) (a .offset) (now (a .window))) (sym (l .inv .1)) (l .inv .3) in (
+    t .merge-stretch .ensures .rows m src
+    (early-rows (a .offset) ps (l .start) (next e) (l .r) (l .inv .2) (e .before .before .next-early .ensures) (now (a .window)) stop (e .stretch-end .ensures .before)) (sym (l .inv .1)) (l .inv .3) in (
       omega (arith, below e),
       w .merge-row .kept .0 ∙ t .merge-stretch .kept .0 ∙ l .inv .1,
-      subst (λ (x : ℕ). Between ps (p .row-pairs .result .next) x x) next (p .row-pairs .ensures .1),
+      p .early-pairs .ensures .1,
       w .merge-row .ensures
           ∙ ap (λ (x : List ℕ). set x (stop % k) (wordOf 64 (λ d. at x (stop % k) d || has word d))) stretched
           ∙ merge-turn m k (pow-pos (a .lg)) src stop (s .pre .1) (λ d. at (matrixOf (length m) (merged k stop m src)) (stop % k) d || has word d)
           (λ d h.
           ap (λ (q : Bool). at (matrixOf (length m) (merged k stop m src)) (stop % k) d || q)
           (ap (λ (x : ℕ). has x d) (j .join .ensures)
-          ∙ join-expanded (a .offset) (now (a .window)) ps stop (p .row-pairs .result .word) d (p .row-pairs .ensures .0) h)),
+          ∙ join-early (a .offset) (now (a .window)) ps stop (p .early-pairs .result .word) d (p .early-pairs .ensures .0) h)),
     )
 
 same-length : tie.Need-same-length Inv-loop μ-loop
@@ -135,7 +145,7 @@ returns c =
     let a = c .before .before .before .before .before .args in
     let m = now (a .matrix) in
     let e : l .r ≡ length (now (a .window)) = omega arith in
-    l .inv .3 ∙ ap (λ (x : ℕ). matrixOf (length m) (merged (2 ^ a .lg) x m (expanded (a .offset) (now (a .window)) (now (a .pairs))))) e
+    l .inv .3 ∙ ap (λ (x : ℕ). matrixOf (length m) (merged (2 ^ a .lg) x m (earlySet (a .offset) (now (a .window)) (now (a .pairs))))) e
 
 pub merge-rows-spec : {M : Type 1} → statement M
 merge-rows-spec =
@@ -144,10 +154,11 @@ merge-rows-spec =
     Inv-loop
     μ-loop
     loop-holds
+    next-early-requires
     last-row-requires
     stretch-end-requires
     merge-stretch-requires
-    row-pairs-requires
+    early-pairs-requires
     shared-slice-read-join
     join-requires
     merge-row-requires

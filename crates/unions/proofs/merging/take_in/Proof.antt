@@ -20,7 +20,7 @@ merge-source-requires c κs =
     let s = c .before .before .before .before .before .before .before .before in
     let least : l .result ≤ s .args .present = omega (arith, l .ensures .0, min-le-left (s .args .present) (s .args .from)) in
     let p : 2 ^ l .result ≤ 2 ^ s .args .present = pow-mono least in
-    (omega (arith, s .pre .0), omega (arith, p, s .pre .1, l .kept .0), s .pre .2, s .pre .3, s .pre .4)
+    (omega (arith, s .pre .0), omega (arith, p, s .pre .1, l .kept .0), s .pre .3, s .pre .4, s .pre .5)
 
 same-length : tie.Need-same-length
 same-length c = search needs
