@@ -1,10 +1,25 @@
 // How an answer becomes a result and eight numbers, and how a fixed list is handed out.
 ghost use mathlib.Core.Path.{_≡_};
 ghost use lib.ListN.{length};
+ghost use Rattle.numbers.specs.Told.{flavorNumber};
 ghost use Rattle.refusals.specs.Outcome.{accepted};
 ghost use Rattle.refusals.specs.Told.{told};
 ghost use Rattle.bridgenook.specs.Exports.{Says, handOutOf, handedOut};
+use numbers::Flavor;
 use refusals::Refusal;
+
+// The flavors in their order.
+pub fn flavor_number(flavor: Flavor) -> u64
+    ensures { λ r. ⌜ r ≡ flavorNumber flavor ⌝ }
+{
+    match flavor {
+        Flavor::Empty => 0,
+        Flavor::Sparse => 1,
+        Flavor::Hybrid => 2,
+        Flavor::Pinned => 3,
+        Flavor::Sliding => 4,
+    }
+}
 
 pub fn refuse(why: Refusal, answer: &mut [u64; 8]) -> u32
     ensures { λ r. ⌜ Says (told why) r (now (answer .exit)) ⌝ }

@@ -1,10 +1,8 @@
 // Rows, flavor, offset, phase, base bits, and the most bits that n pairs take.
 ghost use Rattle.numbers.specs.Calls.{rowsOf, flavorOf, offsetOf, phaseOf, baseBitsOf, mostBitsOf};
-ghost use Rattle.numbers.specs.Told.{toldNumber, flavorNumber};
+ghost use Rattle.numbers.specs.Told.{toldNumber};
 ghost use Rattle.bridgenook.specs.Exports.{Says};
-ghost use mathlib.Core.Path.{_≡_};
 use super::answers;
-use numbers::Flavor;
 use numbers::FlavorAnswer;
 use numbers::MostAnswer;
 use numbers::NumberAnswer;
@@ -17,19 +15,6 @@ fn say_number(number: NumberAnswer, answer: &mut [u64; 8]) -> u32
     match number {
         NumberAnswer::Given(value) => answers::accept([value as u64, 0, 0, 0, 0, 0], answer),
         NumberAnswer::Refused(why) => answers::refuse(why, answer),
-    }
-}
-
-// The flavors in their order.
-pub fn flavor_number(flavor: Flavor) -> u64
-    ensures { λ r. ⌜ r ≡ flavorNumber flavor ⌝ }
-{
-    match flavor {
-        Flavor::Empty => 0,
-        Flavor::Sparse => 1,
-        Flavor::Hybrid => 2,
-        Flavor::Pinned => 3,
-        Flavor::Sliding => 4,
     }
 }
 
@@ -49,7 +34,7 @@ pub extern "C" fn bridgenook_determine_flavor(lg: u8, coupons: u32, answer: &mut
 {
     match numbers::determine_flavor(lg, coupons) {
         FlavorAnswer::Flavored(flavor) => answers::accept(
-            [flavor_number(flavor), 0, 0, 0, 0, 0],
+            [answers::flavor_number(flavor), 0, 0, 0, 0, 0],
             answer,
         ),
         FlavorAnswer::Refused(why) => answers::refuse(why, answer),

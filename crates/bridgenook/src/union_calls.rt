@@ -4,7 +4,6 @@ ghost use Rattle.matrices.specs.Calls.{countOf, splitOf, splitWindow, splitPair
 ghost use Rattle.unions.specs.Told.{toldSplit, toldUnion};
 ghost use Rattle.bridgenook.specs.Exports.{Says};
 use super::answers;
-use super::number_calls::flavor_number;
 use unions::CountAnswer;
 use unions::CpcUnion;
 use unions::ExpandAnswer;
@@ -29,7 +28,7 @@ fn say_split(split: SplitAnswer, answer: &mut [u64; 8]) -> u32
     match split {
         SplitAnswer::Parted(parts) => {
             let kind = parts.flavor;
-            let flavor = flavor_number(kind);
+            let flavor = answers::flavor_number(kind);
             let coupons = parts.coupons as u64;
             let offset = parts.offset as u64;
             let column = parts.column as u64;

@@ -19,6 +19,7 @@ use Rattle.streams.specs.Codes.{total, pack}
 use Rattle.streams.specs.Written.{pairsCodes, pairsBits, wordsOf}
 use Rattle.streams.specs.Read.{Ending, whole, faulty, Reading}
 use Rattle.streams.specs.Calls.{writePairsOf, pairsWritten, wordsInto, readPairsJudged, readPairsOf, pairsRead, readOutcome, endedBy, pairsReading, readInto}
+use Rattle.streams.proofs.Granted.{granted, most-fits}
 use Rattle.streams.proofs.Stream.{length-bytesOf}
 use Rattle.streams.proofs.Trip.{pairs-trip}
 use Rattle.streams.proofs.Two.{pairs-few}
@@ -83,6 +84,18 @@ module _ (book table : List ℕ) (lg : ℕ) (pairs : List ℕ) (g : Granted book
         ap₂ (λ (o : Outcome) (reading : Reading). andThen o (readOutcome reading)) j r,
         ap₂ (λ (o : Outcome) (reading : Reading). ifAccepted o (readInto reading room) room) j r,
       )
+
+  -- the stream is never too long to be read
+  pub stream-fits : 4 * wordsFor bits ≤ 2 ^ 30
+  stream-fits =
+      omega
+      (arith, granted book (2 ^ lg) pairs (table-checks book table (g .passes)) (g .book-size) (pow-mono (g .lg-most)) (g .lawful), most-fits (2 ^ lg) (length pairs) (pow-mono (g .lg-most)) (g .few))
+
+  -- so what the writer left in room for just its words is read back, whatever the list
+  pub reads-own : (out room : List ℕ) → length out ≡ 4 * wordsFor bits → length pairs ≤ length room
+      → (readPairsOf book table lg (length pairs) (pairsWritten book lg pairs out) room ≡ accepted [])
+      × (pairsRead book table lg (length pairs) (pairsWritten book lg pairs out) room ≡ pairs ++ drop (length pairs) room)
+  reads-own out room e enough = reads-back out room (omega arith) (omega (arith, stream-fits)) enough
 
 read-whole : (place : ℕ) (ending : Ending) (values : List ℕ) → endedBy place ending ≡ accepted values → (next : ℕ) × (ending ≡ whole next)
 read-whole place (whole next) values e = (next, refl)

@@ -86,6 +86,18 @@ most-small k (suc n) l =
     rw (ne-eqb (suc n) 0 (omega arith))
     (omega (arith, mul-le-mul-left {m = 15 + baseBitsAt k (suc n)} {n = 41} (suc n) (omega (arith, base-bits-most k (suc n)))))
 
+-- what is granted to 2^28 pairs fits the longest stream that is read, 2^30 bytes
+pub most-fits : (k n : ℕ) → k ≤ 2 ^ 26 → n ≤ 2 ^ 28 → mostBitsAt k n ≤ 2 ^ 33
+unfolding mostBitsAt
+most-fits k zero m l = omega arith
+most-fits k (suc n) m l = rw (ne-eqb (suc n) 0 (omega arith)) (⊎-elim within beyond (le-or-lt (suc n) k))
+  where
+    within : suc n ≤ k → suc n * (15 + baseBitsAt k (suc n)) + 10 ≤ 2 ^ 33
+    within h = omega (arith, mul-le-mul-left {m = 15 + baseBitsAt k (suc n)} {n = 41} (suc n) (omega (arith, base-bits-most k (suc n))))
+
+    beyond : k < suc n → suc n * (15 + baseBitsAt k (suc n)) + 10 ≤ 2 ^ 33
+    beyond h = rw (base-bits-none k (suc n) h) (omega arith)
+
 -- the pad of a list that is not empty
 pub pad-some : (k n : ℕ) → 1 ≤ n → pairsPad k n ≡ 10 - baseBitsAt k n
 pad-some k n l = rw (ne-eqb n 0 (omega arith))
