@@ -1,5 +1,6 @@
 //! Matrices and unions.
 
+mod asked;
 mod calls;
 mod chosen;
 mod grown;
@@ -8,6 +9,7 @@ mod inputs;
 mod lent;
 mod refusals;
 mod sketches;
+mod sources;
 
 use self::calls::Calls;
 use self::lent::LentCalls;
