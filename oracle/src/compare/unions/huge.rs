@@ -1,11 +1,11 @@
 //! Matrices at lg_k 26, half a gigabyte each: counts, and refusal 10, which nothing smaller has.
 
-use super::SEED;
 use super::calls::Calls;
 use crate::answer::Answer;
 use crate::answer::Outcome;
 use crate::cases::AgainstReading;
 use crate::cases::Kind;
+use crate::growing::SEED;
 use crate::lent_matrices::Sketch;
 use crate::lent_matrices::Union;
 use crate::ours::unions as ours;
