@@ -9,6 +9,7 @@ use bridgenook::numbers;
 
 use crate::failure::Failure;
 use crate::failure::Told;
+use crate::text;
 use crate::text::Name;
 use crate::text::Text;
 
@@ -82,17 +83,12 @@ impl PairText {
     }
 }
 
+/// The list grows with the lines that are there.
 pub fn read_listed(text: &mut Text<'_>, count: u32) -> Result<Vec<u32>, Failure> {
-    let mut pairs = Vec::new();
-    for index in 0..u64::from(count) {
-        pairs.push(text.number(Name::Listed('p', index), u32::MAX.into())? as u32);
-    }
-    Ok(pairs)
+    let pairs = text.listed('p', count.into(), u32::MAX.into());
+    pairs.map(|pair| Ok(pair? as u32)).collect()
 }
 
 pub fn write_listed(out: &mut dyn Write, pairs: &[u32]) -> io::Result<()> {
-    for (index, pair) in pairs.iter().enumerate() {
-        writeln!(out, "p{index}={pair}")?;
-    }
-    Ok(())
+    text::write_listed(out, 'p', pairs)
 }

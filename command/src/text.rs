@@ -5,6 +5,7 @@ use std::fmt;
 use std::io;
 use std::io::BufRead;
 use std::io::Read;
+use std::io::Write;
 
 use crate::claims::judged_lg_k;
 use crate::failure::Failure;
@@ -65,6 +66,18 @@ fn decimal(digits: &[u8]) -> Option<u64> {
     })
 }
 
+/// Lines for [`Text::listed`].
+pub fn write_listed(
+    out: &mut dyn Write,
+    letter: char,
+    list: &[impl fmt::Display],
+) -> io::Result<()> {
+    for (index, number) in (0..).zip(list) {
+        writeln!(out, "{}{number}", Name::Listed(letter, index))?;
+    }
+    Ok(())
+}
+
 pub struct Text<'a> {
     pub name: String,
     bytes: Box<dyn BufRead>,
@@ -111,6 +124,16 @@ impl<'a> Text<'a> {
                 "the line should be {name}NUMBER, NUMBER a decimal up to {most} without leading zeros"
             ))
         })
+    }
+
+    /// The numbers of the next lines, which have this letter and an index from 0 on; each at most `most`.
+    pub fn listed(
+        &mut self,
+        letter: char,
+        count: u64,
+        most: u64,
+    ) -> impl Iterator<Item = Result<u64, Failure>> {
+        (0..count).map(move |index| self.number(Name::Listed(letter, index), most))
     }
 
     /// The lg_k that every text but a book begins with, refused by 1 if it is outside 4..26.

@@ -6,7 +6,7 @@ use std::io::Write;
 use bridgenook::numbers;
 
 use crate::failure::Failure;
-use crate::text::Name;
+use crate::text;
 use crate::text::Text;
 
 pub struct WindowText {
@@ -31,16 +31,10 @@ impl WindowText {
 
 /// The window grows with the lines that are there.
 pub fn read_bytes(text: &mut Text<'_>, rows: u64) -> Result<Vec<u8>, Failure> {
-    let mut window = Vec::new();
-    for index in 0..rows {
-        window.push(text.number(Name::Listed('w', index), u8::MAX.into())? as u8);
-    }
-    Ok(window)
+    let bytes = text.listed('w', rows, u8::MAX.into());
+    bytes.map(|byte| Ok(byte? as u8)).collect()
 }
 
 pub fn write_bytes(out: &mut dyn Write, window: &[u8]) -> io::Result<()> {
-    for (index, byte) in window.iter().enumerate() {
-        writeln!(out, "w{index}={byte}")?;
-    }
-    Ok(())
+    text::write_listed(out, 'w', window)
 }

@@ -88,17 +88,36 @@ impl Outcome for Answer {
     }
 }
 
-/// An answer together with the memory that was lent to be written.
+/// Memory that is lent to be written: one list, or several.
+pub trait LentMemory: PartialEq {
+    /// Where two of these part, in words.
+    fn parting(&self, other: &Self) -> Option<String>;
+}
+
+impl<T: Debug + PartialEq> LentMemory for Vec<T> {
+    fn parting(&self, other: &Self) -> Option<String> {
+        parting("lent memory", self, other)
+    }
+}
+
+/// Where two lists part, in words.
+pub fn parting<T: Debug + PartialEq>(name: &str, mine: &[T], theirs: &[T]) -> Option<String> {
+    let place = (0..mine.len()).find(|&place| theirs.get(place) != Some(&mine[place]))?;
+    let (mine, theirs) = (&mine[place], theirs.get(place));
+    Some(format!("the {name} parts at {place}: {mine:?}, {theirs:?}"))
+}
+
+/// An answer together with the memory that it leaves.
 #[derive(Clone, PartialEq, Eq)]
-pub struct Lent<T> {
+pub struct Lent<M> {
     pub answer: Answer,
-    pub memory: Vec<T>,
-    /// The memory next to the lent part, on both sides, is as it was.
+    pub memory: M,
+    /// The memory next to each lent list, on both sides, is as it was.
     pub surroundings_stay: bool,
 }
 
-impl<T> Lent<T> {
-    pub fn expected(answer: Answer, memory: Vec<T>) -> Self {
+impl<M> Lent<M> {
+    pub fn expected(answer: Answer, memory: M) -> Self {
         Self {
             answer,
             memory,
@@ -107,7 +126,7 @@ impl<T> Lent<T> {
     }
 }
 
-impl<T: Clone> Lent<T> {
+impl<T: Clone> Lent<Vec<T>> {
     /// As much as the Rust speaks of, where the first so many items are what was written or read.
     pub fn spoken(&self, items: usize) -> Spoken<T> {
         match self.answer.number {
@@ -117,30 +136,21 @@ impl<T: Clone> Lent<T> {
     }
 }
 
-impl<T: Debug + PartialEq> Outcome for Lent<T> {
+impl<M: LentMemory> Outcome for Lent<M> {
     fn number(&self) -> u32 {
         self.answer.number
     }
 
     fn say(&self) -> String {
-        let beyond = if self.surroundings_stay {
-            ""
-        } else {
-            ", and writes beyond the lent part"
+        let beyond = match self.surroundings_stay {
+            true => "",
+            false => ", and writes beyond what is lent",
         };
         format!("{}{beyond}", self.answer.say())
     }
 
     fn parting(&self, other: &Self) -> Option<String> {
-        let place = self
-            .memory
-            .iter()
-            .zip(&other.memory)
-            .position(|(mine, theirs)| mine != theirs)?;
-        Some(format!(
-            "the lent memory parts at {place}: {:?} and {:?}",
-            self.memory[place], other.memory[place]
-        ))
+        self.memory.parting(&other.memory)
     }
 }
 
@@ -168,21 +178,44 @@ impl<T: Copy + Display + PartialEq> Outcome for Spoken<T> {
     }
 }
 
-/// Lends the middle of a larger memory to a call, so that a write past either end shows.
+/// A list in the middle of a larger memory, so that a write past either end shows.
+pub struct Surrounded<T> {
+    whole: Vec<T>,
+    around: T,
+}
+
+/// So many items stand before the list, and as many after it.
+const MARGIN: usize = 16;
+
+impl<T: Copy + PartialEq> Surrounded<T> {
+    pub fn new(list: &[T], around: T) -> Self {
+        let mut whole = vec![around; MARGIN + list.len() + MARGIN];
+        whole[MARGIN..MARGIN + list.len()].copy_from_slice(list);
+        Self { whole, around }
+    }
+
+    pub fn list(&mut self) -> &mut [T] {
+        let end = self.whole.len() - MARGIN;
+        &mut self.whole[MARGIN..end]
+    }
+
+    pub fn stays_around(&self) -> bool {
+        let (before, rest) = self.whole.split_at(MARGIN);
+        let after = &rest[rest.len() - MARGIN..];
+        before.iter().chain(after).all(|item| *item == self.around)
+    }
+}
+
+/// Lends a list to a call.
 pub fn lend<T: Copy + PartialEq>(
-    memory: &[T],
+    list: &[T],
     around: T,
     call: impl FnOnce(&mut [T]) -> Answer,
-) -> Lent<T> {
-    const MARGIN: usize = 16;
-    let end = MARGIN + memory.len();
-    let mut whole = vec![around; end + MARGIN];
-    whole[MARGIN..end].copy_from_slice(memory);
-    let answer = call(&mut whole[MARGIN..end]);
+) -> Lent<Vec<T>> {
+    let mut lent = Surrounded::new(list, around);
     Lent {
-        answer,
-        memory: whole[MARGIN..end].to_vec(),
-        surroundings_stay: whole[..MARGIN].iter().all(|entry| *entry == around)
-            && whole[end..].iter().all(|entry| *entry == around),
+        answer: call(lent.list()),
+        surroundings_stay: lent.stays_around(),
+        memory: lent.list().to_vec(),
     }
 }

@@ -4,8 +4,10 @@ use std::fmt;
 
 use crate::answer::Answer;
 use crate::answer::Lent;
+use crate::answer::LentMemory;
 use crate::answer::Outcome;
-use crate::answer::lend;
+use crate::answer::Surrounded;
+use crate::answer::parting;
 use crate::listed::Listed;
 
 /// A read sketch: its flavor and its offset come from its stated coupons.
@@ -58,70 +60,36 @@ impl fmt::Display for Union {
     }
 }
 
-/// An answer together with the window and the list that it leaves.
+/// The two outputs of a split.
 #[derive(Clone, PartialEq, Eq)]
-pub struct LentParts {
-    pub answer: Answer,
+pub struct SplitMemory {
     pub window: Vec<u8>,
     pub pairs: Vec<u32>,
-    /// The memory next to both is as it was.
-    pub surroundings_stay: bool,
 }
 
-impl LentParts {
-    pub fn expected(answer: Answer, window: Vec<u8>, pairs: Vec<u32>) -> Self {
-        Self {
-            answer,
-            window,
-            pairs,
-            surroundings_stay: true,
-        }
-    }
-}
-
-impl Outcome for LentParts {
-    fn number(&self) -> u32 {
-        self.answer.number
-    }
-
-    fn say(&self) -> String {
-        let beyond = match self.surroundings_stay {
-            true => "",
-            false => ", and writes beyond the lent parts",
-        };
-        format!("{}{beyond}", self.answer.say())
-    }
-
+impl LentMemory for SplitMemory {
     fn parting(&self, other: &Self) -> Option<String> {
         parting("window", &self.window, &other.window)
             .or_else(|| parting("list", &self.pairs, &other.pairs))
     }
 }
 
-/// Where two lists part, in words.
-fn parting<T: PartialEq + fmt::Debug>(part: &str, mine: &[T], theirs: &[T]) -> Option<String> {
-    let place = (0..mine.len()).find(|&place| theirs.get(place) != Some(&mine[place]))?;
-    let (mine, theirs) = (&mine[place], theirs.get(place));
-    Some(format!("the {part} parts at {place}: {mine:?}, {theirs:?}"))
-}
+pub type LentSplit = Lent<SplitMemory>;
 
-/// Lends a window and a list, each the middle of a larger memory.
-pub fn lend_parts(
-    window: &[u8],
-    pairs: &[u32],
+/// Lends both outputs to a split.
+pub fn lend_split(
+    memory: &SplitMemory,
     call: impl FnOnce(&mut [u8], &mut [u32]) -> Answer,
-) -> LentParts {
-    let mut list = None;
-    let window = lend(window, 0x5c, |window| {
-        let lent = lend(pairs, 0x5ca1_ab1e, |pairs| call(window, pairs));
-        list.insert(lent).answer
-    });
-    let list: Lent<u32> = list.expect("the call was made");
-    LentParts {
-        answer: window.answer,
-        window: window.memory,
-        pairs: list.memory,
-        surroundings_stay: window.surroundings_stay && list.surroundings_stay,
+) -> LentSplit {
+    let mut window = Surrounded::new(&memory.window, 0x5c);
+    let mut pairs = Surrounded::new(&memory.pairs, 0x5ca1_ab1e);
+    Lent {
+        answer: call(window.list(), pairs.list()),
+        surroundings_stay: window.stays_around() && pairs.stays_around(),
+        memory: SplitMemory {
+            window: window.list().to_vec(),
+            pairs: pairs.list().to_vec(),
+        },
     }
 }
 

@@ -1,11 +1,14 @@
 //! A pair table as it is lent: its record, its region and its spare, with the output of a listing; and
 //! what a call leaves of them.
 
-use std::array;
 use std::fmt;
 
 use crate::answer::Answer;
+use crate::answer::Lent;
+use crate::answer::LentMemory;
 use crate::answer::Outcome;
+use crate::answer::Surrounded;
+use crate::answer::parting;
 use crate::plain_reading::pair_lists::RESERVED;
 use crate::random::Random;
 
@@ -108,85 +111,31 @@ impl Memory {
     }
 }
 
-/// An answer together with the memory that it leaves.
-#[derive(Clone, PartialEq, Eq)]
-pub struct LentTable {
-    pub answer: Answer,
-    pub memory: Memory,
-    /// The memory next to the lent parts is as it was.
-    pub surroundings_stay: bool,
-}
-
-impl LentTable {
-    pub fn expected(answer: Answer, memory: Memory) -> Self {
-        Self {
-            answer,
-            memory,
-            surroundings_stay: true,
-        }
-    }
-}
-
-impl Outcome for LentTable {
-    fn number(&self) -> u32 {
-        self.answer.number
-    }
-
-    fn say(&self) -> String {
-        let beyond = match self.surroundings_stay {
-            true => "",
-            false => ", and writes beyond the lent parts",
-        };
-        format!("{}{beyond}", self.answer.say())
-    }
-
+impl LentMemory for Memory {
     fn parting(&self, other: &Self) -> Option<String> {
-        let (mine, theirs) = (&self.memory, &other.memory);
-        parting("region", &mine.region, &theirs.region)
-            .or_else(|| parting("spare", &mine.spare, &theirs.spare))
-            .or_else(|| parting("output", &mine.out, &theirs.out))
+        parting("region", &self.region, &other.region)
+            .or_else(|| parting("spare", &self.spare, &other.spare))
+            .or_else(|| parting("output", &self.out, &other.out))
     }
 }
 
-/// Where two lists part, in words.
-fn parting(part: &str, mine: &[u32], theirs: &[u32]) -> Option<String> {
-    let place = (0..mine.len()).find(|&place| theirs.get(place) != Some(&mine[place]))?;
-    let (mine, theirs) = (mine[place], theirs.get(place));
-    Some(format!("the {part} parts at {place}: {mine}, {theirs:?}"))
-}
+pub type LentTable = Lent<Memory>;
 
-/// Lends three parts of a larger memory to a call, so that a write past any end shows.
+/// Lends region, spare and output to a call.
 pub fn lend_table(
     memory: &Memory,
     call: impl FnOnce(&mut [u32], &mut [u32], &mut [u32]) -> Answer,
 ) -> LentTable {
-    const AROUND: u32 = 0x5ca1_ab1e;
-    const MARGIN: [u32; 8] = [AROUND; 8];
-    let lengths = [memory.region.len(), memory.spare.len(), memory.out.len()];
-    let mut whole = Vec::with_capacity(4 * MARGIN.len() + lengths.iter().sum::<usize>());
-    whole.extend(MARGIN);
-    let starts = [&memory.region, &memory.spare, &memory.out].map(|part| {
-        whole.extend(part);
-        whole.extend(MARGIN);
-        whole.len() - MARGIN.len() - part.len()
-    });
-    let ranges: [_; 3] = array::from_fn(|part| starts[part]..starts[part] + lengths[part]);
-    let [region, spare, out] = whole
-        .get_disjoint_mut(ranges.clone())
-        .expect("there are margins between the parts");
+    let lists = [&memory.region, &memory.spare, &memory.out];
+    let mut lent = lists.map(|list| Surrounded::new(list, 0x5ca1_ab1e));
+    let [region, spare, out] = lent.each_mut().map(Surrounded::list);
     let answer = call(region, spare, out);
-    let [region, spare, out] = ranges.map(|range| whole[range].to_vec());
-    let margins = [
-        0..starts[0],
-        starts[0] + lengths[0]..starts[1],
-        starts[1] + lengths[1]..starts[2],
-        starts[2] + lengths[2]..whole.len(),
-    ];
-    let stays = |margin| whole[margin] == MARGIN;
-    LentTable {
+    let surroundings_stay = lent.iter().all(Surrounded::stays_around);
+    let [region, spare, out] = lent.each_mut().map(|list| list.list().to_vec());
+    Lent {
         answer,
         memory: Memory { region, spare, out },
-        surroundings_stay: margins.into_iter().all(stays),
+        surroundings_stay,
     }
 }
 

@@ -7,6 +7,7 @@ mod answer;
 mod books;
 mod cases;
 mod compare;
+mod growing;
 mod lent_matrices;
 mod lent_tables;
 mod listed;

@@ -115,9 +115,7 @@ pub fn practice_pair_table(table: &mut [u16]) -> Result<(), Refused> {
     hand_out(raw::bridgenook_practice_pair_table, table)
 }
 
-type HandOut = unsafe extern "C" fn(*mut u16, usize, *mut raw::Filled) -> u32;
-
-fn hand_out(call: HandOut, list: &mut [u16]) -> Result<(), Refused> {
+fn hand_out(call: raw::HandOut, list: &mut [u16]) -> Result<(), Refused> {
     ask(of_book(&[]), |answer| unsafe {
         call(list.as_mut_ptr(), list.len(), answer)
     })

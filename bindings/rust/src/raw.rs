@@ -9,6 +9,27 @@
 /// What a call answers: place and bit position of a refusal, then the values of an accepted call, and zeros for the rest.
 pub type Filled = [u64; 8];
 
+/// The calls that hand out a practice book or its table.
+pub type HandOut = unsafe extern "C" fn(*mut u16, usize, *mut Filled) -> u32;
+
+/// Insert and delete: a table's record, region and spare, and the item.
+pub type TableChange =
+    unsafe extern "C" fn(u8, u8, u32, *mut u32, usize, *mut u32, usize, u32, *mut Filled) -> u32;
+
+/// Extraction and walk: a table's record, region and spare, and the output.
+pub type TableListing = unsafe extern "C" fn(
+    u8,
+    u8,
+    u32,
+    *const u32,
+    usize,
+    *const u32,
+    usize,
+    *mut u32,
+    usize,
+    *mut Filled,
+) -> u32;
+
 #[link(name = "bridgenook", kind = "static")]
 unsafe extern "C" {
     /// Values: k.

@@ -126,20 +126,8 @@ pub fn delete(
     change(raw::bridgenook_table_delete, table, (region, spare), item)
 }
 
-type Change = unsafe extern "C" fn(
-    u8,
-    u8,
-    u32,
-    *mut u32,
-    usize,
-    *mut u32,
-    usize,
-    u32,
-    *mut raw::Filled,
-) -> u32;
-
 fn change(
-    call: Change,
+    call: raw::TableChange,
     table: &mut Table,
     (region, spare): (&mut [u32], &mut [u32]),
     item: u32,
@@ -183,21 +171,8 @@ pub fn walk(table: &Table, region: &[u32], spare: &[u32], out: &mut [u32]) -> Re
     list(raw::bridgenook_table_walk, table, (region, spare), out)
 }
 
-type Listing = unsafe extern "C" fn(
-    u8,
-    u8,
-    u32,
-    *const u32,
-    usize,
-    *const u32,
-    usize,
-    *mut u32,
-    usize,
-    *mut raw::Filled,
-) -> u32;
-
 fn list(
-    call: Listing,
+    call: raw::TableListing,
     table: &Table,
     (region, spare): (&[u32], &[u32]),
     out: &mut [u32],

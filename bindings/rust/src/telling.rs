@@ -93,26 +93,26 @@ fn wrong_book(book: &[u16], place: u64, as_a_whole: &'static str) -> Telling {
     Telling::nowhere(as_a_whole)
 }
 
-pub(crate) fn of_book(book: &[u16]) -> impl FnOnce(Reason, u64) -> Telling {
-    |reason, place| match reason {
-        Reason::WrongBook => wrong_book(
-            book,
-            place,
-            "the book fails the check: some twelve bits begin with no codeword of it, or with two",
-        ),
+/// A 3 is told with these words if it is about the book as a whole.
+fn of_judged_book(book: &[u16], as_a_whole: &'static str) -> impl FnOnce(Reason, u64) -> Telling {
+    move |reason, place| match reason {
+        Reason::WrongBook => wrong_book(book, place, as_a_whole),
         _ => plain(reason),
     }
 }
 
+pub(crate) fn of_book(book: &[u16]) -> impl FnOnce(Reason, u64) -> Telling {
+    of_judged_book(
+        book,
+        "the book fails the check: some twelve bits begin with no codeword of it, or with two",
+    )
+}
+
 pub(crate) fn of_book_and_table(book: &[u16]) -> impl FnOnce(Reason, u64) -> Telling {
-    |reason, place| match reason {
-        Reason::WrongBook => wrong_book(
-            book,
-            place,
-            "the book fails the check, or the decoding table is not that book's",
-        ),
-        _ => plain(reason),
-    }
+    of_judged_book(
+        book,
+        "the book fails the check, or the decoding table is not that book's",
+    )
 }
 
 pub(crate) fn of_pick(reason: Reason, _place: u64) -> Telling {

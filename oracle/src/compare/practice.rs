@@ -30,7 +30,7 @@ pub fn compare() {
 fn compare_constant(
     name: &'static str,
     ours: fn(&mut [u16]) -> Answer,
-    reading: fn(&[u16]) -> Lent<u16>,
+    reading: fn(&[u16]) -> Lent<Vec<u16>>,
 ) {
     let mut cases = AgainstReading::new(name);
     for length in LENGTHS {

@@ -1,93 +1,16 @@
 //! The calls of the static library, each as a safe function on slices.
 //!
-//! Nothing checks these declarations against the library, so they stand in one place and are few. A
-//! call fills its answer whole; it is handed one full of garbage, so that an unwritten part shows.
+//! They are declared in the Rust bindings alone. A call fills its answer whole; it is handed one full of
+//! garbage, so that an unwritten part shows.
 
 pub mod tables;
 pub mod unions;
 
+use bridgenook::raw;
+use bridgenook::raw::Filled;
+
 use crate::answer::Answer;
 use crate::plain_reading::books::Coded;
-
-/// Place, bit, and the values.
-type Filled = [u64; 8];
-
-#[link(name = "bridgenook", kind = "static")]
-unsafe extern "C" {
-    fn bridgenook_rows(lg: u8, answer: *mut Filled) -> u32;
-    fn bridgenook_determine_flavor(lg: u8, coupons: u32, answer: *mut Filled) -> u32;
-    fn bridgenook_determine_correct_offset(lg: u8, coupons: u32, answer: *mut Filled) -> u32;
-    fn bridgenook_determine_pseudo_phase(lg: u8, coupons: u32, answer: *mut Filled) -> u32;
-    fn bridgenook_number_of_base_bits(lg: u8, pairs: u32, answer: *mut Filled) -> u32;
-    fn bridgenook_most_bits(lg: u8, pairs: u32, answer: *mut Filled) -> u32;
-    fn bridgenook_words_for(bits: u64, answer: *mut Filled) -> u32;
-    fn bridgenook_bits_in(words: u64, answer: *mut Filled) -> u32;
-    fn bridgenook_check_book(book: *const u16, symbols: usize, answer: *mut Filled) -> u32;
-    fn bridgenook_check_table(
-        book: *const u16,
-        symbols: usize,
-        table: *const u16,
-        entries: usize,
-        answer: *mut Filled,
-    ) -> u32;
-    fn bridgenook_fill_table(
-        book: *const u16,
-        symbols: usize,
-        table: *mut u16,
-        entries: usize,
-        answer: *mut Filled,
-    ) -> u32;
-    fn bridgenook_pick(set: *const u16, entries: usize, phase: u8, answer: *mut Filled) -> u32;
-    fn bridgenook_practice_pair_book(book: *mut u16, symbols: usize, answer: *mut Filled) -> u32;
-    fn bridgenook_practice_window_book(book: *mut u16, symbols: usize, answer: *mut Filled) -> u32;
-    fn bridgenook_practice_pair_table(table: *mut u16, entries: usize, answer: *mut Filled) -> u32;
-    fn bridgenook_judge_pairs(lg: u8, pairs: *const u32, count: usize, answer: *mut Filled) -> u32;
-    fn bridgenook_write_pairs(
-        book: *const u16,
-        symbols: usize,
-        lg: u8,
-        pairs: *const u32,
-        count: usize,
-        out: *mut u8,
-        room: usize,
-        answer: *mut Filled,
-    ) -> u32;
-    fn bridgenook_read_pairs(
-        book: *const u16,
-        symbols: usize,
-        table: *const u16,
-        entries: usize,
-        lg: u8,
-        count: u32,
-        stream: *const u8,
-        bytes: usize,
-        out: *mut u32,
-        room: usize,
-        answer: *mut Filled,
-    ) -> u32;
-    fn bridgenook_write_window(
-        book: *const u16,
-        symbols: usize,
-        lg: u8,
-        window: *const u8,
-        rows: usize,
-        out: *mut u8,
-        room: usize,
-        answer: *mut Filled,
-    ) -> u32;
-    fn bridgenook_read_window(
-        book: *const u16,
-        symbols: usize,
-        table: *const u16,
-        entries: usize,
-        lg: u8,
-        stream: *const u8,
-        bytes: usize,
-        window: *mut u8,
-        rows: usize,
-        answer: *mut Filled,
-    ) -> u32;
-}
 
 const GARBAGE: u64 = 0xa5c3_96e1_0f78_5ad2;
 
@@ -107,44 +30,44 @@ fn answered(call: impl FnOnce(*mut Filled) -> u32) -> Answer {
 // library reads and writes nothing outside of what it is lent.
 
 pub fn rows(lg: u8) -> Answer {
-    answered(|answer| unsafe { bridgenook_rows(lg, answer) })
+    answered(|answer| unsafe { raw::bridgenook_rows(lg, answer) })
 }
 
 pub fn determine_flavor(lg: u8, coupons: u32) -> Answer {
-    answered(|answer| unsafe { bridgenook_determine_flavor(lg, coupons, answer) })
+    answered(|answer| unsafe { raw::bridgenook_determine_flavor(lg, coupons, answer) })
 }
 
 pub fn determine_correct_offset(lg: u8, coupons: u32) -> Answer {
-    answered(|answer| unsafe { bridgenook_determine_correct_offset(lg, coupons, answer) })
+    answered(|answer| unsafe { raw::bridgenook_determine_correct_offset(lg, coupons, answer) })
 }
 
 pub fn determine_pseudo_phase(lg: u8, coupons: u32) -> Answer {
-    answered(|answer| unsafe { bridgenook_determine_pseudo_phase(lg, coupons, answer) })
+    answered(|answer| unsafe { raw::bridgenook_determine_pseudo_phase(lg, coupons, answer) })
 }
 
 pub fn number_of_base_bits(lg: u8, pairs: u32) -> Answer {
-    answered(|answer| unsafe { bridgenook_number_of_base_bits(lg, pairs, answer) })
+    answered(|answer| unsafe { raw::bridgenook_number_of_base_bits(lg, pairs, answer) })
 }
 
 pub fn most_bits(lg: u8, pairs: u32) -> Answer {
-    answered(|answer| unsafe { bridgenook_most_bits(lg, pairs, answer) })
+    answered(|answer| unsafe { raw::bridgenook_most_bits(lg, pairs, answer) })
 }
 
 pub fn words_for(bits: u64) -> Answer {
-    answered(|answer| unsafe { bridgenook_words_for(bits, answer) })
+    answered(|answer| unsafe { raw::bridgenook_words_for(bits, answer) })
 }
 
 pub fn bits_in(words: u64) -> Answer {
-    answered(|answer| unsafe { bridgenook_bits_in(words, answer) })
+    answered(|answer| unsafe { raw::bridgenook_bits_in(words, answer) })
 }
 
 pub fn check_book(book: &[u16]) -> Answer {
-    answered(|answer| unsafe { bridgenook_check_book(book.as_ptr(), book.len(), answer) })
+    answered(|answer| unsafe { raw::bridgenook_check_book(book.as_ptr(), book.len(), answer) })
 }
 
 pub fn check_table(book: &[u16], table: &[u16]) -> Answer {
     answered(|answer| unsafe {
-        bridgenook_check_table(
+        raw::bridgenook_check_table(
             book.as_ptr(),
             book.len(),
             table.as_ptr(),
@@ -156,7 +79,7 @@ pub fn check_table(book: &[u16], table: &[u16]) -> Answer {
 
 pub fn fill_table(book: &[u16], table: &mut [u16]) -> Answer {
     answered(|answer| unsafe {
-        bridgenook_fill_table(
+        raw::bridgenook_fill_table(
             book.as_ptr(),
             book.len(),
             table.as_mut_ptr(),
@@ -167,34 +90,34 @@ pub fn fill_table(book: &[u16], table: &mut [u16]) -> Answer {
 }
 
 pub fn pick(set: &[u16], phase: u8) -> Answer {
-    answered(|answer| unsafe { bridgenook_pick(set.as_ptr(), set.len(), phase, answer) })
+    answered(|answer| unsafe { raw::bridgenook_pick(set.as_ptr(), set.len(), phase, answer) })
+}
+
+fn hand_out(call: raw::HandOut, list: &mut [u16]) -> Answer {
+    answered(|answer| unsafe { call(list.as_mut_ptr(), list.len(), answer) })
 }
 
 pub fn practice_pair_book(book: &mut [u16]) -> Answer {
-    answered(|answer| unsafe {
-        bridgenook_practice_pair_book(book.as_mut_ptr(), book.len(), answer)
-    })
+    hand_out(raw::bridgenook_practice_pair_book, book)
 }
 
 pub fn practice_window_book(book: &mut [u16]) -> Answer {
-    answered(|answer| unsafe {
-        bridgenook_practice_window_book(book.as_mut_ptr(), book.len(), answer)
-    })
+    hand_out(raw::bridgenook_practice_window_book, book)
 }
 
 pub fn practice_pair_table(table: &mut [u16]) -> Answer {
-    answered(|answer| unsafe {
-        bridgenook_practice_pair_table(table.as_mut_ptr(), table.len(), answer)
-    })
+    hand_out(raw::bridgenook_practice_pair_table, table)
 }
 
 pub fn judge_pairs(lg: u8, pairs: &[u32]) -> Answer {
-    answered(|answer| unsafe { bridgenook_judge_pairs(lg, pairs.as_ptr(), pairs.len(), answer) })
+    answered(|answer| unsafe {
+        raw::bridgenook_judge_pairs(lg, pairs.as_ptr(), pairs.len(), answer)
+    })
 }
 
 pub fn write_pairs(book: &[u16], lg: u8, pairs: &[u32], out: &mut [u8]) -> Answer {
     answered(|answer| unsafe {
-        bridgenook_write_pairs(
+        raw::bridgenook_write_pairs(
             book.as_ptr(),
             book.len(),
             lg,
@@ -209,7 +132,7 @@ pub fn write_pairs(book: &[u16], lg: u8, pairs: &[u32], out: &mut [u8]) -> Answe
 
 pub fn read_pairs(coded: Coded, lg: u8, count: u32, stream: &[u8], out: &mut [u32]) -> Answer {
     answered(|answer| unsafe {
-        bridgenook_read_pairs(
+        raw::bridgenook_read_pairs(
             coded.book.as_ptr(),
             coded.book.len(),
             coded.table.as_ptr(),
@@ -227,7 +150,7 @@ pub fn read_pairs(coded: Coded, lg: u8, count: u32, stream: &[u8], out: &mut [u3
 
 pub fn write_window(book: &[u16], lg: u8, window: &[u8], out: &mut [u8]) -> Answer {
     answered(|answer| unsafe {
-        bridgenook_write_window(
+        raw::bridgenook_write_window(
             book.as_ptr(),
             book.len(),
             lg,
@@ -242,7 +165,7 @@ pub fn write_window(book: &[u16], lg: u8, window: &[u8], out: &mut [u8]) -> Answ
 
 pub fn read_window(coded: Coded, lg: u8, stream: &[u8], window: &mut [u8]) -> Answer {
     answered(|answer| unsafe {
-        bridgenook_read_window(
+        raw::bridgenook_read_window(
             coded.book.as_ptr(),
             coded.book.len(),
             coded.table.as_ptr(),

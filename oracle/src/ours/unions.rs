@@ -1,64 +1,18 @@
 //! The calls on matrices and unions.
 
-use super::Filled;
+use bridgenook::raw;
+
 use super::answered;
 use crate::answer::Answer;
 use crate::lent_matrices::Sketch;
 
-unsafe extern "C" {
-    fn bridgenook_count(lg: u8, matrix: *const u64, rows: usize, answer: *mut Filled) -> u32;
-    fn bridgenook_split(
-        lg: u8,
-        matrix: *const u64,
-        rows: usize,
-        window: *mut u8,
-        bytes: usize,
-        pairs: *mut u32,
-        room: usize,
-        answer: *mut Filled,
-    ) -> u32;
-    fn bridgenook_expand(
-        lg: u8,
-        coupons: u32,
-        window: *const u8,
-        bytes: usize,
-        pairs: *const u32,
-        count: usize,
-        matrix: *mut u64,
-        rows: usize,
-        answer: *mut Filled,
-    ) -> u32;
-    fn bridgenook_new_union(
-        lg: u8,
-        seed: u64,
-        matrix: *mut u64,
-        rows: usize,
-        answer: *mut Filled,
-    ) -> u32;
-    fn bridgenook_merge(
-        lg: u8,
-        present: u8,
-        seed: u64,
-        matrix: *mut u64,
-        rows: usize,
-        from: u8,
-        other: u64,
-        coupons: u32,
-        window: *const u8,
-        bytes: usize,
-        pairs: *const u32,
-        count: usize,
-        answer: *mut Filled,
-    ) -> u32;
-}
-
 pub fn count(lg: u8, matrix: &[u64]) -> Answer {
-    answered(|answer| unsafe { bridgenook_count(lg, matrix.as_ptr(), matrix.len(), answer) })
+    answered(|answer| unsafe { raw::bridgenook_count(lg, matrix.as_ptr(), matrix.len(), answer) })
 }
 
 pub fn split(lg: u8, matrix: &[u64], window: &mut [u8], pairs: &mut [u32]) -> Answer {
     answered(|answer| unsafe {
-        bridgenook_split(
+        raw::bridgenook_split(
             lg,
             matrix.as_ptr(),
             matrix.len(),
@@ -73,7 +27,7 @@ pub fn split(lg: u8, matrix: &[u64], window: &mut [u8], pairs: &mut [u32]) -> An
 
 pub fn expand(sketch: &Sketch, matrix: &mut [u64]) -> Answer {
     answered(|answer| unsafe {
-        bridgenook_expand(
+        raw::bridgenook_expand(
             sketch.lg,
             sketch.coupons,
             sketch.window.as_ptr(),
@@ -89,7 +43,7 @@ pub fn expand(sketch: &Sketch, matrix: &mut [u64]) -> Answer {
 
 pub fn new_union(lg: u8, seed: u64, matrix: &mut [u64]) -> Answer {
     answered(|answer| unsafe {
-        bridgenook_new_union(lg, seed, matrix.as_mut_ptr(), matrix.len(), answer)
+        raw::bridgenook_new_union(lg, seed, matrix.as_mut_ptr(), matrix.len(), answer)
     })
 }
 
@@ -99,7 +53,7 @@ pub type Record = (u8, u8, u64);
 /// The source's seed is given beside it.
 pub fn merge((lg, present, own): Record, matrix: &mut [u64], source: &Sketch, seed: u64) -> Answer {
     answered(|answer| unsafe {
-        bridgenook_merge(
+        raw::bridgenook_merge(
             lg,
             present,
             own,

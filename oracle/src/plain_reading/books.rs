@@ -92,7 +92,7 @@ pub fn check_table(book: &[u16], table: &[u16]) -> Answer {
     answer
 }
 
-pub fn fill_table(book: &[u16], table: &[u16]) -> Lent<u16> {
+pub fn fill_table(book: &[u16], table: &[u16]) -> Lent<Vec<u16>> {
     let answer = check_before_table(book, table);
     let memory = match answer.number {
         0 => decoding_table(book),

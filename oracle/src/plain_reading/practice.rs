@@ -39,7 +39,7 @@ pub fn window_book() -> Vec<u16> {
 }
 
 /// What a call that writes a constant into lent memory does: 2 if the length is not the constant's.
-fn written(constant: Vec<u16>, memory: &[u16]) -> Lent<u16> {
+fn written(constant: Vec<u16>, memory: &[u16]) -> Lent<Vec<u16>> {
     if memory.len() == constant.len() {
         Lent::expected(Answer::accepted(&[]), constant)
     } else {
@@ -47,15 +47,15 @@ fn written(constant: Vec<u16>, memory: &[u16]) -> Lent<u16> {
     }
 }
 
-pub fn practice_pair_book(memory: &[u16]) -> Lent<u16> {
+pub fn practice_pair_book(memory: &[u16]) -> Lent<Vec<u16>> {
     written(pair_book(), memory)
 }
 
-pub fn practice_window_book(memory: &[u16]) -> Lent<u16> {
+pub fn practice_window_book(memory: &[u16]) -> Lent<Vec<u16>> {
     written(window_book(), memory)
 }
 
-pub fn practice_pair_table(memory: &[u16]) -> Lent<u16> {
+pub fn practice_pair_table(memory: &[u16]) -> Lent<Vec<u16>> {
     let table = decoding_table(&pair_book());
     debug_assert_eq!(table.len(), NUMBERS);
     written(table, memory)

@@ -84,7 +84,7 @@ fn window_to_write(book: &[u16], lg: u8, window: &[u8]) -> Result<Bits, Answer> 
 }
 
 /// The words stand at the front of the output, and what is past them stays.
-fn written(bits: Result<Bits, Answer>, out: &[u8]) -> Lent<u8> {
+fn written(bits: Result<Bits, Answer>, out: &[u8]) -> Lent<Vec<u8>> {
     let mut memory = out.to_vec();
     let answer = bits.and_then(|bits| {
         let words = bits.words();
@@ -95,11 +95,11 @@ fn written(bits: Result<Bits, Answer>, out: &[u8]) -> Lent<u8> {
     Lent::expected(answer.unwrap_or_else(|refused| refused), memory)
 }
 
-pub fn write_pairs(book: &[u16], lg: u8, pairs: &[u32], out: &[u8]) -> Lent<u8> {
+pub fn write_pairs(book: &[u16], lg: u8, pairs: &[u32], out: &[u8]) -> Lent<Vec<u8>> {
     written(pairs_to_write(book, lg, pairs), out)
 }
 
-pub fn write_window(book: &[u16], lg: u8, window: &[u8], out: &[u8]) -> Lent<u8> {
+pub fn write_window(book: &[u16], lg: u8, window: &[u8], out: &[u8]) -> Lent<Vec<u8>> {
     written(window_to_write(book, lg, window), out)
 }
 
@@ -139,7 +139,11 @@ impl PairReader<'_> {
 }
 
 /// The items before the fault stand at the front of the output, and what is past them stays.
-fn read<T: Copy>(out: &[T], count: usize, mut next: impl FnMut() -> Result<T, Fault>) -> Lent<T> {
+fn read<T: Copy>(
+    out: &[T],
+    count: usize,
+    mut next: impl FnMut() -> Result<T, Fault>,
+) -> Lent<Vec<T>> {
     let mut memory = out.to_vec();
     for (place, item) in memory[..count].iter_mut().enumerate() {
         match next() {
@@ -153,7 +157,7 @@ fn read<T: Copy>(out: &[T], count: usize, mut next: impl FnMut() -> Result<T, Fa
     Lent::expected(Answer::accepted(&[]), memory)
 }
 
-fn unread<T: Clone>(out: &[T], refused: Answer) -> Lent<T> {
+fn unread<T: Clone>(out: &[T], refused: Answer) -> Lent<Vec<T>> {
     Lent::expected(refused, out.to_vec())
 }
 
@@ -178,7 +182,7 @@ fn judged_to_read(
     Ok(k)
 }
 
-pub fn read_pairs(coded: Coded, lg: u8, count: u32, stream: &[u8], out: &[u32]) -> Lent<u32> {
+pub fn read_pairs(coded: Coded, lg: u8, count: u32, stream: &[u8], out: &[u32]) -> Lent<Vec<u32>> {
     match judged_to_read(coded, lg, count, stream, out.len()) {
         Err(refused) => unread(out, refused),
         Ok(k) => {
@@ -202,7 +206,7 @@ fn judged_to_read_window(coded: Coded, lg: u8, stream: &[u8], rows: usize) -> Re
     refuse_as(check_table(coded.book, coded.table))
 }
 
-pub fn read_window(coded: Coded, lg: u8, stream: &[u8], window: &[u8]) -> Lent<u8> {
+pub fn read_window(coded: Coded, lg: u8, stream: &[u8], window: &[u8]) -> Lent<Vec<u8>> {
     match judged_to_read_window(coded, lg, stream, window.len()) {
         Err(refused) => unread(window, refused),
         Ok(()) => {

@@ -6,8 +6,9 @@ use super::pair_lists;
 use super::streams::refuse_if;
 use crate::answer::Answer;
 use crate::answer::Lent;
-use crate::lent_matrices::LentParts;
+use crate::lent_matrices::LentSplit;
 use crate::lent_matrices::Sketch;
+use crate::lent_matrices::SplitMemory;
 use crate::lent_matrices::Union;
 
 /// The row of the reserved number, whose column is 63.
@@ -144,13 +145,13 @@ fn judged_split(lg: u8, matrix: &[u64], window: usize, room: usize) -> Result<Sp
     Ok(split)
 }
 
-pub fn split(lg: u8, matrix: &[u64], window: &[u8], pairs: &[u32]) -> LentParts {
-    let (mut window, mut pairs) = (window.to_vec(), pairs.to_vec());
-    let answer = match judged_split(lg, matrix, window.len(), pairs.len()) {
+pub fn split(lg: u8, matrix: &[u64], memory: &SplitMemory) -> LentSplit {
+    let mut left = memory.clone();
+    let answer = match judged_split(lg, matrix, left.window.len(), left.pairs.len()) {
         Err(refused) => refused,
         Ok(split) => {
-            window[..split.window.len()].copy_from_slice(&split.window);
-            pairs[..split.pairs.len()].copy_from_slice(&split.pairs);
+            left.window[..split.window.len()].copy_from_slice(&split.window);
+            left.pairs[..split.pairs.len()].copy_from_slice(&split.pairs);
             let listed = split.pairs.len() as u64;
             let Split {
                 coupons,
@@ -162,7 +163,7 @@ pub fn split(lg: u8, matrix: &[u64], window: &[u8], pairs: &[u32]) -> LentParts 
             Answer::accepted(&[coupons, flavor, offset, column, listed])
         }
     };
-    LentParts::expected(answer, window, pairs)
+    Lent::expected(answer, left)
 }
 
 /// The cells that a sketch stands for, whose lengths and pairs are lawful.
@@ -272,7 +273,7 @@ fn refusal<T>(judged: Result<T, Answer>) -> Answer {
     judged.err().expect("only refusals are asked for")
 }
 
-pub fn expand(sketch: &Sketch, matrix: &[u64]) -> Lent<u64> {
+pub fn expand(sketch: &Sketch, matrix: &[u64]) -> Lent<Vec<u64>> {
     match judged_expansion(sketch, matrix.len()) {
         Err(refused) => Lent::expected(refused, matrix.to_vec()),
         Ok(expanded) => Lent::expected(Answer::accepted(&[]), expanded),
@@ -284,7 +285,7 @@ fn record(lg: u8, present: u8, seed: u64) -> Answer {
 }
 
 /// New union (matrix zeroed): 1, 2.
-pub fn new_union(lg: u8, seed: u64, matrix: &[u64]) -> Lent<u64> {
+pub fn new_union(lg: u8, seed: u64, matrix: &[u64]) -> Lent<Vec<u64>> {
     match judged_matrix(lg, matrix) {
         Err(refused) => Lent::expected(refused, matrix.to_vec()),
         Ok(_) => Lent::expected(record(lg, lg, seed), vec![0; matrix.len()]),
@@ -327,7 +328,7 @@ fn fold(k: u64, matrix: &[u64]) -> Vec<u64> {
 }
 
 /// A source whose seed is given beside it. An Empty one changes nothing.
-pub fn merge(union: &Union, source: &Sketch, seed: u64) -> Lent<u64> {
+pub fn merge(union: &Union, source: &Sketch, seed: u64) -> Lent<Vec<u64>> {
     let Union {
         lg,
         present,

@@ -7,6 +7,7 @@ use super::Said;
 use super::listen;
 use crate::answer::Answer;
 use crate::answer::Spoken;
+use crate::growing::SEED;
 use crate::lent_matrices::Parts;
 use crate::lent_matrices::Sketch;
 use crate::lent_matrices::SpokenParts;
@@ -45,8 +46,6 @@ pub fn parts(sketch: &CpcSketch) -> Sketch {
 }
 
 /// Any seed that the Rust takes will do, since an expansion has none.
-const SEED: u64 = 9001;
-
 pub fn expand(lent: &Sketch) -> Said<Spoken<u64>> {
     let expanded = || sketch(lent, SEED).map(|made| CpcSketch::inside().build_bit_matrix(&made));
     listen(expanded).map(spoken)
@@ -127,7 +126,7 @@ impl RustUnion {
     }
 
     /// The parts, and the first interesting column.
-    fn to_sketch(self) -> (SpokenParts, u64) {
+    fn into_parts(self) -> (SpokenParts, u64) {
         let (sketch, _) = CpcSketch::inside().union_to_sketch(self.0);
         let (coupons, offset, column, ..) = CpcSketch::inside().parts_of_sketch(&sketch);
         let Sketch {
@@ -154,13 +153,13 @@ pub fn split(lg: u8, matrix: &[u64]) -> Said<(SpokenParts, u64)> {
             4..=26 => RustUnion::holding(lg, SEED, matrix),
             _ => Ok(RustUnion::with_matrix(lg, SEED, matrix)),
         };
-        union.expect("the Rust takes this seed").to_sketch()
+        union.expect("the Rust takes this seed").into_parts()
     })
 }
 
 /// Of a union that the crate has made.
 pub fn to_sketch(union: RustUnion) -> Said<(SpokenParts, u64)> {
-    listen(|| union.to_sketch())
+    listen(|| union.into_parts())
 }
 
 /// Of a lawful union.

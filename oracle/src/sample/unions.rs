@@ -8,6 +8,8 @@ use datasketches::cpc::CpcSketch;
 
 use super::BEFORE;
 use super::before_and_after;
+use crate::growing::SEED;
+use crate::growing::grown;
 use crate::lent_matrices::Sketch;
 use crate::lent_matrices::SpokenParts;
 use crate::lent_matrices::Union;
@@ -18,8 +20,6 @@ use crate::rust::Said;
 use crate::rust::unions as rust;
 use crate::rust::unions::RustUnion;
 
-const SEED: u64 = 9001;
-
 /// So many items for each 16 rows make a sketch Empty, Sparse, Hybrid, Pinned, and Sliding at a low and a high offset.
 const ITEMS: [u64; 6] = [0, 1, 5, 30, 150, 4000];
 
@@ -27,18 +27,12 @@ pub fn write(text: &mut String) {
     let mut random = Random::new(15);
     for lg in [4, 5] {
         for items in ITEMS {
-            write_sketch(text, &grown(lg, items, &mut random));
+            write_sketch(text, &grown(lg, (items << lg) >> 4, &mut random));
         }
     }
     for (lg, sources) in [(4, [4, 5, 4]), (5, [5, 6, 5]), (6, [6, 5, 4])] {
         write_union(text, lg, sources, &mut random);
     }
-}
-
-fn grown(lg: u8, items: u64, random: &mut Random) -> CpcSketch {
-    let mut sketch = CpcSketch::with_seed(lg, SEED).expect("the Rust takes this seed");
-    (0..(items << lg) >> 4).for_each(|_| sketch.update(random.number()));
-    sketch
 }
 
 fn whole<T: Copy + PartialEq + Display>(list: &[T]) -> String {
@@ -104,7 +98,7 @@ fn write_union(text: &mut String, lg: u8, sources: [u8; 3], random: &mut Random)
     let mut lent = Union::empty(lg, SEED);
     for items in ITEMS {
         for from in sources {
-            let source = grown(from, items, random);
+            let source = grown(from, (items << from) >> 4, random);
             union = updated(&union, &source);
             lent = write_merge(text, &lent, &source, &union);
         }

@@ -1,7 +1,9 @@
 //! Stand-in for the crate's own `compression_data.rs`, its code tables, which are not to be had.
 //!
 //! The names and the ways to index them are those that `compression.rs` and `sketch.rs` ask for.
-//! The contents are lent at run time, so that one process can try many books: see `install`.
+//! The contents are lent at run time, so that one process can try many books: see `install`. With the
+//! feature `constants` they are constants, and what is lent is not asked for.
+#![cfg_attr(feature = "constants", allow(dead_code))]
 
 #[cfg(feature = "constants")]
 mod constants;
@@ -11,16 +13,12 @@ use std::cell::Cell;
 use std::ops::Index;
 
 #[cfg(feature = "constants")]
-pub use self::constants::LENGTH_LIMITED_UNARY_DECODING_TABLE65;
-#[cfg(feature = "constants")]
-pub use self::constants::LENGTH_LIMITED_UNARY_ENCODING_TABLE65;
+pub use self::constants::*;
 
 /// A book and the decoding table that belongs to it.
 type Coded = (Vec<u16>, Vec<u16>);
 
-/// Arrays, as the crate's own must be: so that a place which is surely inside costs no check. With
-/// constants for the pairs, theirs are not asked for.
-#[cfg_attr(feature = "constants", allow(dead_code))]
+/// Arrays, as the crate's own must be: so that a place which is surely inside costs no check.
 struct Tables {
     pair_book: [u16; 65],
     pair_table: [u16; 4096],
@@ -70,8 +68,10 @@ pub static LENGTH_LIMITED_UNARY_ENCODING_TABLE65: Lent<[u16; 65]> =
 #[cfg(not(feature = "constants"))]
 pub static LENGTH_LIMITED_UNARY_DECODING_TABLE65: Lent<[u16; 4096]> =
     Lent(|tables| &tables.pair_table);
+#[cfg(not(feature = "constants"))]
 pub static ENCODING_TABLES_FOR_HIGH_ENTROPY_BYTE: Lent<[[u16; 256]; 22]> =
     Lent(|tables| &tables.window_books);
+#[cfg(not(feature = "constants"))]
 pub static DECODING_TABLES_FOR_HIGH_ENTROPY_BYTE: Lent<[[u16; 4096]; 22]> =
     Lent(|tables| &tables.window_tables);
 

@@ -12,6 +12,9 @@ use crate::plain_reading::books::WINDOW_SYMBOLS;
 use crate::plain_reading::books::decoding_table;
 use crate::plain_reading::practice;
 use crate::random::Random;
+use crate::ratios::Ratios;
+use crate::ratios::Row;
+use crate::ratios::sized;
 use crate::timing::Runs;
 
 const RUNS: Runs = Runs {
@@ -19,45 +22,47 @@ const RUNS: Runs = Runs {
     calls: 64,
 };
 
+const SHAPES: [(&str, Shape); 3] = [
+    ("flat", Shape::Flat),
+    ("mixed", Shape::Mixed),
+    ("skewed", Shape::Skewed),
+];
+
 fn one_pass(numbers: &[u16]) -> u64 {
     numbers.iter().map(|&number| u64::from(number)).sum()
 }
 
-fn print_row(name: &str, micros: f64, pass: f64) {
-    println!("{name:<44} {micros:>8.2} {:>8.1}", micros / pass);
-}
-
-pub fn print() {
+pub fn measure(ratios: &mut Ratios) {
     let numbers = decoding_table(&practice::pair_book());
     let pass = RUNS.median(|| {
         black_box(one_pass(black_box(&numbers)));
     });
-    println!("{:<44} {:>8} {:>8}", std::env::consts::ARCH, "µs", "passes");
-    print_row("one pass over 4,096 numbers", pass, pass);
-
     let mut random = Random::new(1);
     for (symbols, practice) in [
         (PAIR_SYMBOLS, practice::pair_book()),
         (WINDOW_SYMBOLS, practice::window_book()),
     ] {
-        print_book(&format!("{symbols} symbols, practice"), &practice, pass);
-        for (shape, name) in [
-            (Shape::Flat, "flat"),
-            (Shape::Mixed, "mixed"),
-            (Shape::Skewed, "skewed"),
-        ] {
+        add_book(ratios, "practice", &practice, pass);
+        for (name, shape) in SHAPES {
             let book = random_book(symbols, shape, &mut random);
-            print_book(&format!("{symbols} symbols, {name}"), &book, pass);
+            add_book(ratios, name, &book, pass);
         }
     }
 }
 
-fn print_book(name: &str, book: &[u16], pass: f64) {
+fn add_book(ratios: &mut Ratios, name: &str, book: &[u16], pass: f64) {
     let table = decoding_table(book);
     let passing = Answer::accepted(&[]);
+    let mut add = |what: &str, time: f64| {
+        let row = Row::alone(what, sized(book.len() as u64, "symbols"), time);
+        let passes = time / pass;
+        ratios.add(row.note(format!(
+            "{name} book; {passes:.1} passes over 4,096 numbers"
+        )));
+    };
     let check = RUNS.median(|| assert!(ours::check_book(black_box(book)) == passing));
-    print_row(&format!("book check, {name}"), check, pass);
+    add("check a book", check);
     let check =
         RUNS.median(|| assert!(ours::check_table(black_box(book), black_box(&table)) == passing));
-    print_row(&format!("book and table check, {name}"), check, pass);
+    add("check a book and its table", check);
 }

@@ -1,5 +1,8 @@
-//! Four tables of timings: the checks of books, then the streams of pairs, the pair table, and matrices and
-//! unions beside the Rust. They are for reading; none of them is a test. `bench unions` has the last alone.
+//! One table of what calls take, beside the Rust, and a picture of the pace of pairs. They are for reading; neither
+//! is a test.
+//!
+//! `bench [books] [streams] [tables] [unions] [--plot FILE]`: the parts of the table that are named, and with
+//! `--plot` the picture. All parts, if nothing is said.
 
 // The modules are those of the comparison, and a benchmark needs a part of each.
 #![allow(dead_code)]
@@ -9,6 +12,8 @@ mod answer;
 mod book_table;
 #[path = "../../books/mod.rs"]
 mod books;
+#[path = "../../growing.rs"]
+mod growing;
 #[path = "../../lent_matrices.rs"]
 mod lent_matrices;
 #[path = "../../lent_tables.rs"]
@@ -22,21 +27,76 @@ mod ours;
 mod pair_table;
 #[path = "../../plain_reading/mod.rs"]
 mod plain_reading;
+mod plot;
 #[path = "../../random.rs"]
 mod random;
+mod ratios;
+#[path = "../../rust/mod.rs"]
+mod rust;
 mod stream_table;
 mod timing;
 mod union_table;
+mod window_table;
 
-fn main() {
-    if std::env::args().nth(1).as_deref() == Some("unions") {
-        return union_table::print();
+use std::env;
+use std::fs;
+use std::io::Result;
+use std::process::exit;
+
+use crate::ratios::Ratios;
+
+/// Adds the rows of a part.
+type Measure = fn(&mut Ratios);
+
+/// By the names that they are asked for.
+const PARTS: [(&str, &[Measure]); 4] = [
+    ("books", &[book_table::measure]),
+    ("streams", &[stream_table::measure, window_table::measure]),
+    ("tables", &[pair_table::measure]),
+    ("unions", &[union_table::measure]),
+];
+
+/// What is asked for: the names of parts, and the file of the picture.
+struct Asked {
+    parts: Vec<String>,
+    picture: Option<String>,
+}
+
+impl Asked {
+    /// None if there is anything else.
+    fn of(mut words: impl Iterator<Item = String>) -> Option<Self> {
+        let (mut parts, mut picture) = (vec![], None);
+        while let Some(word) = words.next() {
+            match word.as_str() {
+                "--plot" => picture = Some(words.next()?),
+                name if PARTS.iter().any(|part| part.0 == name) => parts.push(word),
+                _ => return None,
+            }
+        }
+        Some(Self { parts, picture })
     }
-    book_table::print();
-    println!();
-    stream_table::print();
-    println!();
-    pair_table::print();
-    println!();
-    union_table::print();
+
+    fn has(&self, part: &str) -> bool {
+        let whole = self.parts.is_empty() && self.picture.is_none();
+        whole || self.parts.iter().any(|name| name == part)
+    }
+}
+
+fn main() -> Result<()> {
+    let Some(asked) = Asked::of(env::args().skip(1)) else {
+        eprintln!("usage: bench [books] [streams] [tables] [unions] [--plot FILE]");
+        exit(2);
+    };
+    let parts: Vec<_> = PARTS.iter().filter(|part| asked.has(part.0)).collect();
+    if !parts.is_empty() {
+        let mut ratios = Ratios::begin();
+        for measure in parts.iter().flat_map(|part| part.1) {
+            measure(&mut ratios);
+        }
+        ratios.finish();
+    }
+    match asked.picture {
+        Some(file) => fs::write(file, plot::picture(&stream_table::paces())),
+        None => Ok(()),
+    }
 }

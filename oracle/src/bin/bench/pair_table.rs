@@ -13,15 +13,12 @@ use crate::ours::tables as ours;
 use crate::plain_reading::pair_lists::RESERVED;
 use crate::plain_reading::tables::least_lg;
 use crate::random::Random;
+use crate::ratios::Ratios;
+use crate::ratios::Row;
+use crate::ratios::sized;
 use crate::timing::Runs;
 
 const VALID: u8 = 32;
-
-const HEADING: &str = "\
-Tables at 32 valid bits: medians in microseconds, and the Rust's time over ours, so that 1.0 is even and more is
-faster. Ours judges whatever it is lent, on every call: the list of a build, the whole table of the others. The
-Rust judges nothing, and reserves its own memory in a build and in a listing. Its walk is the loop of its merge,
-with the items pushed to a list. \"Side by side\" is the rising list 0, 1, 2 and so on, all of one home.";
 
 /// The fields of the Rust's table.
 type Fields = (u8, u8, u32, Vec<u32>);
@@ -35,28 +32,28 @@ struct Tried {
     rust: Fields,
 }
 
-pub fn print() {
-    println!("{HEADING}");
-    println!(
-        "{:<28} {:>9} {:>12} {:>12} {:>10}",
-        "", "items", "ours", "the Rust", "ratio"
-    );
+/// Of an evenly spread rising list.
+const BUILD_BAR: f64 = 1.5;
+
+pub fn measure(ratios: &mut Ratios) {
     let mut random = Random::new(2);
     for count in [1_000, 100_000, 10_000_000] {
         let list = increasing(RESERVED.into(), count, Spread::Even, &mut random);
         let mut tried = Tried::new(list);
-        tried.print("build, rising, even", Tried::time_build);
-        tried.print("extract", Tried::time_extract);
-        tried.print("walk", Tried::time_walk);
+        let build = tried.row("build, rising", Tried::time_build);
+        ratios.add(build.bar(BUILD_BAR));
+        ratios.add(tried.row("extract", Tried::time_extract));
+        ratios.add(tried.row("walk", Tried::time_walk));
     }
     for count in [1_000, 100_000] {
         let mut tried = Tried::new((0..count).collect());
-        tried.print("build, rising, side by side", Tried::time_build);
+        let build = tried.row("build, rising, side by side", Tried::time_build);
+        ratios.add(build.note("0, 1, 2 and so on, all of one home"));
     }
     for lg in [4, 10, 16] {
         let list = increasing(RESERVED.into(), 1 << (lg - 1), Spread::Even, &mut random);
-        let name = format!("insert, lg {lg}, half full");
-        Tried::new(list).print(&name, Tried::time_insert);
+        let insert = Tried::new(list).row("insert", Tried::time_insert);
+        ratios.add(insert.note("the table is half full"));
     }
 }
 
@@ -77,10 +74,8 @@ impl Tried {
         }
     }
 
-    fn print(&mut self, name: &str, time: fn(&mut Self) -> (f64, f64)) {
-        let (ours, rust) = time(self);
-        let (count, ratio) = (self.list.len(), rust / ours);
-        println!("{name:<28} {count:>9} {ours:>12.2} {rust:>12.2} {ratio:>10.4}");
+    fn row(&mut self, what: &str, time: fn(&mut Self) -> (f64, f64)) -> Row {
+        Row::beside(what, sized(self.list.len() as u64, "items"), time(self))
     }
 
     /// The shorter a call, the more of them are one run. Of the Rust's slowest builds one must do.

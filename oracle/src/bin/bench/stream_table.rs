@@ -5,15 +5,19 @@ use std::hint::black_box;
 
 use datasketches::cpc::CpcSketch;
 
-use crate::books::BookSet;
 use crate::lists::Spread;
 use crate::lists::random_list;
 use crate::ours;
 use crate::plain_reading::books::Coded;
 use crate::plain_reading::books::decoding_table;
 use crate::plain_reading::numbers;
+use crate::plain_reading::practice;
 use crate::plain_reading::streams::bits_of_pairs;
 use crate::random::Random;
+use crate::ratios::Ratios;
+use crate::ratios::Row;
+use crate::ratios::share;
+use crate::ratios::sized;
 use crate::timing::Runs;
 
 /// How many pairs, and the lg_k at which they are tried.
@@ -25,11 +29,10 @@ const SIZES: [(u64, u8); 5] = [
     (600_000, 20),
 ];
 
-const HEADING: &str = "\
-Pairs with the practice book, spread evenly: medians in microseconds, and the Rust's time over ours, so that 1.0
-is even and more is faster. The fixed cost is the time of our call with no pairs, mostly the judging of the book,
-which the Rust does not do; in the last column it is taken off our time. The Rust reserves its own output in each
-call, and has its tables as constants; ours is lent them.";
+/// Bars are for lists of so many pairs or more.
+const LEAST_WITH_BAR: u32 = 1_000;
+const WRITING_BAR: f64 = 0.8;
+const READING_BAR: f64 = 1.0;
 
 /// A list of pairs, its stream, and the books that both sides have.
 struct Tried<'a> {
@@ -39,37 +42,59 @@ struct Tried<'a> {
     stream: Vec<u8>,
 }
 
-pub fn print() {
-    let practice = BookSet::practice();
-    let table = decoding_table(practice.pairs());
+pub fn measure(ratios: &mut Ratios) {
+    let book = practice::pair_book();
     let coded = Coded {
-        book: practice.pairs(),
-        table: &table,
+        book: &book,
+        table: &decoding_table(&book),
     };
     let mut random = Random::new(1);
     let none = Tried::new(coded, 8, 0, &mut random);
     let sizes = SIZES.map(|(count, lg)| Tried::new(coded, lg, count, &mut random));
-    println!("{HEADING}");
-    println!(
-        "{:<28} {:>8} {:>5} {:>10} {:>10} {:>7} {:>13}",
-        "", "pairs", "lg_k", "ours", "the Rust", "ratio", "without fixed"
-    );
     let fixed = none.runs().median(|| none.write(&mut []));
-    none.print("writing, fixed cost", (fixed, 0.0), fixed);
+    ratios.add(none.fixed_row("write pairs", fixed));
     for tried in &sizes {
-        tried.print(
-            "writing, room by the bound",
-            tried.time_writing(tried.bound()),
-            fixed,
-        );
-        let exact = tried.time_writing(tried.stream.len());
-        tried.print("writing, just enough room", exact, fixed);
+        let mut add = |what: &str, room: usize| {
+            let times = tried.time_writing(room);
+            ratios.add(tried.row(what, times, fixed, WRITING_BAR));
+        };
+        add("write pairs, room by the bound", tried.bound());
+        add("write pairs, room just enough", tried.stream.len());
     }
     let fixed = none.runs().median(|| none.read(&mut []));
-    none.print("reading, fixed cost", (fixed, 0.0), fixed);
+    ratios.add(none.fixed_row("read pairs", fixed));
     for tried in &sizes {
-        tried.print("reading", tried.time_reading(), fixed);
+        let times = tried.time_reading();
+        ratios.add(tried.row("read pairs", times, fixed, READING_BAR));
     }
+}
+
+/// The numbers of pairs in the lists of the picture.
+const PACED: [u64; 14] = [
+    64, 125, 250, 500, 1_000, 2_000, 4_000, 8_000, 16_000, 35_000, 75_000, 150_000, 300_000,
+    600_000,
+];
+
+/// Million pairs a second in lists of so many: ours, and the Rust's.
+pub struct Pace {
+    pub pairs: u64,
+    pub read: (f64, f64),
+    pub written: (f64, f64),
+}
+
+/// Each list has four to eight rows for a pair, so that all row steps have as many low bits.
+pub fn paces() -> Vec<Pace> {
+    let book = practice::pair_book();
+    let coded = Coded {
+        book: &book,
+        table: &decoding_table(&book),
+    };
+    let mut random = Random::new(1);
+    let mut pace = |pairs: u64| {
+        let lg = (4 * pairs).next_power_of_two().ilog2() as u8;
+        Tried::new(coded, lg, pairs, &mut random).pace()
+    };
+    PACED.into_iter().map(&mut pace).collect()
 }
 
 impl<'a> Tried<'a> {
@@ -136,14 +161,29 @@ impl<'a> Tried<'a> {
         self.runs().medians(|| self.read(&mut out), rust)
     }
 
-    /// Our time and the Rust's, which has no fixed cost of its own.
-    fn print(&self, name: &str, (ours, rust): (f64, f64), fixed: f64) {
-        let (count, lg) = (self.count(), self.lg);
-        print!("{name:<28} {count:>8} {lg:>5} {ours:>10.2}");
-        if count > 0 {
-            let (ratio, without) = (rust / ours, rust / (ours - fixed));
-            print!(" {rust:>10.2} {ratio:>7.2} {without:>13.2}");
+    /// Written with room by the bound.
+    fn pace(&self) -> Pace {
+        let pairs = self.count().into();
+        let in_a_second = |(ours, rust)| (pairs as f64 / ours, pairs as f64 / rust);
+        Pace {
+            pairs,
+            read: in_a_second(self.time_reading()),
+            written: in_a_second(self.time_writing(self.bound())),
         }
-        println!();
+    }
+
+    fn size(&self) -> String {
+        sized(self.count().into(), "pairs")
+    }
+
+    fn row(&self, what: &str, times: (f64, f64), fixed: f64, bar: f64) -> Row {
+        let bar = (self.count() >= LEAST_WITH_BAR).then_some(bar);
+        let note = format!("fixed cost: {}", share(fixed, times.0));
+        Row::beside(what, self.size(), times).bar(bar).note(note)
+    }
+
+    /// The call with no pairs. The Rust has none: it divides by zero, or does nothing.
+    fn fixed_row(&self, what: &str, fixed: f64) -> Row {
+        Row::alone(what, self.size(), fixed).note("the fixed cost: the judging of the book")
     }
 }

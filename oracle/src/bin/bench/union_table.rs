@@ -5,12 +5,16 @@ use std::hint::black_box;
 
 use datasketches::cpc::CpcSketch;
 
+use crate::growing::SEED;
+use crate::growing::grown;
 use crate::lent_matrices::Sketch;
 use crate::ours::unions as ours;
 use crate::random::Random;
+use crate::ratios::Ratios;
+use crate::ratios::Row;
+use crate::ratios::share;
+use crate::rust::unions::parts;
 use crate::timing::Runs;
-
-const SEED: u64 = 9001;
 
 const LGS: [u8; 4] = [10, 12, 16, 20];
 
@@ -22,14 +26,6 @@ const FLAVORS: [(&str, u8, u64); 4] = [
     ("Sliding", 4, 4096),
 ];
 
-const HEADING: &str = "\
-Matrices and unions: medians in microseconds, and the Rust's time over ours, so that 1.0 is even and more is faster.
-A merge is into a union of the same k that already has a matrix, on both sides. Ours judges the union and the source
-whole, on every call; the Rust judges nothing. \"Judging\" is our merge with a wrong seed, which is refused at the very
-end, as a share of the whole call. The Rust's expansion and split reserve their own memory; its split fills a table,
-ours a sorted list. The last rows are our count, beside the Rust's count and beside a plain sum over the same words,
-which is the pace of memory at lg_k 24 and that of a cache below. Calls of milliseconds need a machine at rest.";
-
 /// A sketch on both sides, and the matrix that it stands for.
 struct Tried {
     name: String,
@@ -38,21 +34,28 @@ struct Tried {
     matrix: Vec<u64>,
 }
 
-pub fn print() {
-    println!("{HEADING}");
-    println!(
-        "{:<28} {:>12} {:>12} {:>8} {:>9}",
-        "", "ours", "the Rust", "ratio", "judging"
-    );
+/// The least ratio that is asked of a call; the others are splits.
+fn bar(call: &str) -> f64 {
+    match call {
+        "merge" | "expand" => 1.0,
+        _ => 1.5,
+    }
+}
+
+pub fn measure(ratios: &mut Ratios) {
     let mut random = Random::new(3);
     for lg in LGS {
+        let mut print_row = |call: &str, name: &str, times: (f64, f64), judging: Option<f64>| {
+            let row = Row::beside(format!("{call}, {name}"), format!("lg_k {lg}"), times);
+            let note = judging.map(|judging| format!("judging: {}", share(judging, times.0)));
+            ratios.add(row.bar(bar(call)).note(note.unwrap_or_default()));
+        };
         for (flavor, number, items) in FLAVORS {
             let tried = Tried::new(lg, flavor, (items << lg) >> 8, &mut random);
             let is = CpcSketch::inside().determine_flavor(lg, tried.sketch.coupons);
             assert!(is == number, "{} is of flavor {is}", tried.name);
-            let (ours, rust) = tried.time_merge();
-            let judging = tried.time_judging() / ours;
-            print_row("merge", &tried.name, (ours, rust), Some(judging));
+            let (times, judging) = (tried.time_merge(), tried.time_judging());
+            print_row("merge", &tried.name, times, Some(judging));
             print_row("expand", &tried.name, tried.time_expand(), None);
             // The Rust's union has no matrix while its coupons are Sparse, and copies its sketch.
             if flavor != "Sparse" {
@@ -62,19 +65,10 @@ pub fn print() {
     }
     for lg in [12, 16, 20, 24] {
         let matrix: Vec<u64> = (0..1u64 << lg).map(|_| random.number()).collect();
-        let name = format!("lg_k {lg}");
-        print_row("count", &name, time_count(lg, &matrix), None);
-        print_row("count by a sum", &name, time_beside_sum(lg, &matrix), None);
+        let row = Row::beside("count", format!("lg_k {lg}"), time_count(lg, &matrix));
+        let sum = time_sum(lg, &matrix);
+        ratios.add(row.note(format!("a plain sum of the words: {sum:.2} µs")));
     }
-}
-
-fn print_row(call: &str, name: &str, (ours, rust): (f64, f64), judging: Option<f64>) {
-    let (name, ratio) = (format!("{call}, {name}"), rust / ours);
-    print!("{name:<28} {ours:>12.2} {rust:>12.2} {ratio:>8.2}");
-    if let Some(judging) = judging {
-        print!(" {judging:>9.2}");
-    }
-    println!();
 }
 
 /// The shorter a call, the more of them are one run.
@@ -97,33 +91,21 @@ fn time_count(lg: u8, matrix: &[u64]) -> (f64, f64) {
     runs(lg).medians(ours, rust)
 }
 
-/// Our count, and a sum of the words as the Rust compiles it: the pace of this machine's memory, or of its caches.
-fn time_beside_sum(lg: u8, matrix: &[u64]) -> (f64, f64) {
-    let ours = || assert!(ours::count(lg, black_box(matrix)).number == 0);
-    let sum = || {
+/// A sum of the words as the Rust compiles it: the pace of this machine's memory, or of its caches.
+fn time_sum(lg: u8, matrix: &[u64]) -> f64 {
+    runs(lg).median(|| {
         let words = black_box(matrix).iter();
         black_box(words.fold(0u64, |sum, &word| sum.wrapping_add(word)));
-    };
-    runs(lg).medians(ours, sum)
+    })
 }
 
 impl Tried {
     fn new(lg: u8, flavor: &str, items: u64, random: &mut Random) -> Self {
-        let inside = CpcSketch::inside();
-        let mut made = CpcSketch::with_seed(lg, SEED).expect("the Rust takes this seed");
-        (0..items).for_each(|_| made.update(random.number()));
-        let (coupons, _, _, window, mut pairs) = inside.parts_of_sketch(&made);
-        pairs.sort_unstable();
-        let sketch = Sketch {
-            lg,
-            coupons,
-            window,
-            pairs,
-        };
+        let made = grown(lg, items, random);
         Self {
-            name: format!("{flavor}, lg_k {lg}"),
-            matrix: inside.build_bit_matrix(&made),
-            sketch,
+            name: flavor.to_string(),
+            sketch: parts(&made),
+            matrix: CpcSketch::inside().build_bit_matrix(&made),
             made,
         }
     }

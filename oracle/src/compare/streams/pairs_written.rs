@@ -199,7 +199,7 @@ fn written(
     pairs: &[u32],
     bytes: usize,
     rust: Said<Spoken<u8>>,
-) -> Sides<Lent<u8>, Spoken<u8>> {
+) -> Sides<Lent<Vec<u8>>, Spoken<u8>> {
     sides::written(
         bytes,
         |out| ours::write_pairs(set.pairs(), lg, pairs, out),

@@ -8,7 +8,7 @@ use crate::answer::lend;
 use crate::cases::Sides;
 use crate::rust::Said;
 
-type StreamSides<T> = Sides<Lent<T>, Spoken<T>>;
+type StreamSides<T> = Sides<Lent<Vec<T>>, Spoken<T>>;
 
 /// What each byte of an output holds before.
 pub const OUT: u8 = 0x9e;
@@ -17,7 +17,7 @@ pub const OUT: u8 = 0x9e;
 pub fn written(
     bytes: usize,
     ours: impl FnOnce(&mut [u8]) -> Answer,
-    reading: impl FnOnce(&[u8]) -> Lent<u8>,
+    reading: impl FnOnce(&[u8]) -> Lent<Vec<u8>>,
     rust: Said<Spoken<u8>>,
 ) -> StreamSides<u8> {
     let out = vec![OUT; bytes];
@@ -35,7 +35,7 @@ pub fn read<T: Copy + PartialEq + From<u8>>(
     items: usize,
     length: usize,
     ours: impl FnOnce(&mut [T]) -> Answer,
-    reading: impl FnOnce(&[T]) -> Lent<T>,
+    reading: impl FnOnce(&[T]) -> Lent<Vec<T>>,
     rust: Said<Spoken<T>>,
 ) -> StreamSides<T> {
     let out = vec![T::from(OUT); length];

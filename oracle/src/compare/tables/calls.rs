@@ -31,10 +31,10 @@ use crate::rust::tables as rust;
 pub struct Calls<'a> {
     new: AgainstRust<'a, NewInput>,
     build: AgainstRust<'a, BuildInput>,
-    insert: AgainstRust<'a, ChangeInput>,
-    delete: AgainstRust<'a, ChangeInput>,
-    extract: AgainstRust<'a, WholeInput>,
-    walk: AgainstRust<'a, WholeInput>,
+    insert: ChangeCall<'a>,
+    delete: ChangeCall<'a>,
+    extract: ListingCall<'a>,
+    walk: ListingCall<'a>,
     clear: AgainstRust<'a, WholeInput>,
 }
 
@@ -43,10 +43,30 @@ impl<'a> Calls<'a> {
         Self {
             new: AgainstRust::new("table_new", NEW_CLASSES, rust_answers),
             build: AgainstRust::new("table_build", BUILD_CLASSES, rust_answers),
-            insert: AgainstRust::new("table_insert", INSERT_CLASSES, rust_answers),
-            delete: AgainstRust::new("table_delete", DELETE_CLASSES, rust_answers),
-            extract: AgainstRust::new("table_extract", LISTING_CLASSES, rust_answers),
-            walk: AgainstRust::new("table_walk", LISTING_CLASSES, rust_answers),
+            insert: ChangeCall {
+                cases: AgainstRust::new("table_insert", INSERT_CLASSES, rust_answers),
+                ours: ours::insert,
+                reading: reading::insert,
+                rust: rust::insert,
+            },
+            delete: ChangeCall {
+                cases: AgainstRust::new("table_delete", DELETE_CLASSES, rust_answers),
+                ours: ours::delete,
+                reading: reading::delete,
+                rust: rust::delete,
+            },
+            extract: ListingCall {
+                cases: AgainstRust::new("table_extract", LISTING_CLASSES, rust_answers),
+                ours: ours::extract,
+                reading: reading::extract,
+                rust: rust::extract,
+            },
+            walk: ListingCall {
+                cases: AgainstRust::new("table_walk", LISTING_CLASSES, rust_answers),
+                ours: ours::walk,
+                reading: reading::walk,
+                rust: rust::walk,
+            },
             clear: AgainstRust::new("table_clear", &[], rust_answers),
         }
     }
@@ -54,10 +74,10 @@ impl<'a> Calls<'a> {
     pub fn finish(self) {
         self.new.finish();
         self.build.finish();
-        self.insert.finish();
-        self.delete.finish();
-        self.extract.finish();
-        self.walk.finish();
+        self.insert.cases.finish();
+        self.delete.cases.finish();
+        self.extract.cases.finish();
+        self.walk.cases.finish();
         self.clear.finish();
     }
 
@@ -67,12 +87,8 @@ impl<'a> Calls<'a> {
         let ours = lend_table(&memory, |region, spare, _| {
             ours::new(lg, valid, region, spare)
         });
-        let sides = Sides {
-            spoken: spoken(&ours, true, 0),
-            reading: reading::new(lg, valid, &memory),
-            rust: rust::new(lg, valid),
-            ours,
-        };
+        let reading = reading::new(lg, valid, &memory);
+        let sides = made(ours, reading, rust::new(lg, valid));
         self.new.judge(NewInput { lg, valid, length }, kind, sides);
     }
 
@@ -89,12 +105,8 @@ impl<'a> Calls<'a> {
             ours::build(valid, list, region, spare)
         });
         let built = (ours.answer.number == 0).then(|| table_left(&ours, 0));
-        let sides = Sides {
-            spoken: spoken(&ours, true, 0),
-            reading: reading::build(valid, list, &memory),
-            rust: rust::build(valid, list),
-            ours,
-        };
+        let reading = reading::build(valid, list, &memory);
+        let sides = made(ours, reading, rust::build(valid, list));
         let list = Listed::of(list);
         let input = BuildInput {
             valid,
@@ -107,12 +119,12 @@ impl<'a> Calls<'a> {
 
     /// The table as it is left.
     pub fn judge_insert(&mut self, table: &Table, item: u32, kind: Kind) -> Table {
-        INSERT.judge(&mut self.insert, table, item, kind)
+        self.insert.judge(table, item, kind)
     }
 
     /// The table as it is left.
     pub fn judge_delete(&mut self, table: &Table, item: u32, kind: Kind) -> Table {
-        DELETE.judge(&mut self.delete, table, item, kind)
+        self.delete.judge(table, item, kind)
     }
 
     pub fn judge_clear(&mut self, table: &Table, kind: Kind) {
@@ -120,19 +132,15 @@ impl<'a> Calls<'a> {
         let ours = lend_table(&memory, |region, spare, _| {
             ours::clear(table.record, region, spare)
         });
-        let sides = Sides {
-            spoken: spoken(&ours, true, 0),
-            reading: reading::clear(table.record, &memory),
-            rust: rust::clear(table),
-            ours,
-        };
+        let reading = reading::clear(table.record, &memory);
+        let sides = made(ours, reading, rust::clear(table));
         self.clear.judge(WholeInput::new(table, 0), kind, sides);
     }
 
     /// Both listings, into an output with room for so many.
     pub fn judge_listings(&mut self, table: &Table, room: usize, kind: Kind) {
-        EXTRACT.judge(&mut self.extract, table, room, kind);
-        WALK.judge(&mut self.walk, table, room, kind);
+        self.extract.judge(table, room, kind);
+        self.walk.judge(table, room, kind);
     }
 }
 
@@ -152,45 +160,45 @@ fn table_left(ours: &LentTable, first: usize) -> Table {
 }
 
 /// As much of an answer as the Rust speaks of: the slots alone.
-fn spoken(ours: &LentTable, changed: bool, first: usize) -> SpokenTable {
+fn spoken(ours: &LentTable, first: usize) -> SpokenTable {
     match ours.answer.number {
         0 => {
             let mut table = table_left(ours, first);
             let slots = 1u64.checked_shl(table.record.lg.into()).unwrap_or(0);
             table.region.truncate(slots as usize);
-            SpokenTable::Table { changed, table }
+            SpokenTable::Table {
+                changed: true,
+                table,
+            }
         }
         number => SpokenTable::Refusal(number),
     }
 }
 
+/// The sides of a call that makes a table, whose record is all that it answers.
+fn made(
+    ours: LentTable,
+    reading: LentTable,
+    rust: Said<SpokenTable>,
+) -> Sides<LentTable, SpokenTable> {
+    Sides {
+        spoken: spoken(&ours, 0),
+        ours,
+        reading,
+        rust,
+    }
+}
+
 /// Insert or delete, on all sides.
-struct ChangeCall {
+struct ChangeCall<'a> {
+    cases: AgainstRust<'a, ChangeInput>,
     ours: fn(Record, &mut [u32], &mut [u32], u32) -> Answer,
     reading: fn(Record, &Memory, u32) -> LentTable,
     rust: fn(&Table, u32) -> Said<SpokenTable>,
 }
 
-const INSERT: ChangeCall = ChangeCall {
-    ours: ours::insert,
-    reading: reading::insert,
-    rust: rust::insert,
-};
-
-const DELETE: ChangeCall = ChangeCall {
-    ours: ours::delete,
-    reading: reading::delete,
-    rust: rust::delete,
-};
-
-impl ChangeCall {
-    fn judge(
-        &self,
-        cases: &mut AgainstRust<ChangeInput>,
-        table: &Table,
-        item: u32,
-        kind: Kind,
-    ) -> Table {
+impl ChangeCall<'_> {
+    fn judge(&mut self, table: &Table, item: u32, kind: Kind) -> Table {
         let memory = Memory::around(&table.region, 0);
         let ours = lend_table(&memory, |region, spare, _| {
             (self.ours)(table.record, region, spare, item)
@@ -202,7 +210,7 @@ impl ChangeCall {
         };
         let said = match is_false {
             true => unchanged(table),
-            false => spoken(&ours, true, 1),
+            false => spoken(&ours, 1),
         };
         let sides = Sides {
             spoken: said,
@@ -210,7 +218,8 @@ impl ChangeCall {
             rust: (self.rust)(table, item),
             ours,
         };
-        cases.judge(ChangeInput::new(table, item), kind, sides);
+        let input = ChangeInput::new(table, item);
+        self.cases.judge(input, kind, sides);
         after
     }
 }
@@ -227,26 +236,15 @@ fn unchanged(table: &Table) -> SpokenTable {
 }
 
 /// Extraction or walk, on all sides.
-struct ListingCall {
+struct ListingCall<'a> {
+    cases: AgainstRust<'a, WholeInput>,
     ours: fn(Record, &[u32], &[u32], &mut [u32]) -> Answer,
     reading: fn(Record, &Memory) -> LentTable,
     rust: fn(&Table) -> Said<Spoken<u32>>,
 }
 
-const EXTRACT: ListingCall = ListingCall {
-    ours: ours::extract,
-    reading: reading::extract,
-    rust: rust::extract,
-};
-
-const WALK: ListingCall = ListingCall {
-    ours: ours::walk,
-    reading: reading::walk,
-    rust: rust::walk,
-};
-
-impl ListingCall {
-    fn judge(&self, cases: &mut AgainstRust<WholeInput>, table: &Table, room: usize, kind: Kind) {
+impl ListingCall<'_> {
+    fn judge(&mut self, table: &Table, room: usize, kind: Kind) {
         let memory = Memory::around(&table.region, room);
         let ours = lend_table(&memory, |region, spare, out| {
             (self.ours)(table.record, region, spare, out)
@@ -262,6 +260,7 @@ impl ListingCall {
             rust: (self.rust)(table),
             ours,
         };
-        cases.judge(WholeInput::new(table, room), kind, sides);
+        let input = WholeInput::new(table, room);
+        self.cases.judge(input, kind, sides);
     }
 }

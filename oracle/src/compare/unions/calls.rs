@@ -1,7 +1,8 @@
-//! The calls on matrices and unions, each against the Rust. What is lent to be written holds garbage before.
+//! The calls on matrices and unions, each against the Rust.
 
 use datasketches::cpc::CpcSketch;
 
+use super::asked;
 use super::inputs::COLUMN_CLASSES;
 use super::inputs::COUNT_CLASSES;
 use super::inputs::CountInput;
@@ -12,34 +13,27 @@ use super::inputs::MergeInput;
 use super::inputs::NEW_CLASSES;
 use super::inputs::NewInput;
 use super::inputs::SPLIT_CLASSES;
-use super::inputs::Source;
 use super::inputs::SplitInput;
+use super::sources::Source;
 use crate::answer::Answer;
 use crate::answer::Lent;
 use crate::answer::Spoken;
-use crate::answer::lend;
 use crate::cases::AgainstRust;
 use crate::cases::Kind;
 use crate::cases::RustAnswers;
 use crate::cases::Sides;
-use crate::lent_matrices::LentParts;
+use crate::lent_matrices::LentSplit;
 use crate::lent_matrices::Parts;
 use crate::lent_matrices::Sketch;
+use crate::lent_matrices::SplitMemory;
 use crate::lent_matrices::SpokenParts;
 use crate::lent_matrices::Union;
-use crate::lent_matrices::lend_parts;
 use crate::listed::Listed;
 use crate::ours::unions as ours;
 use crate::plain_reading::unions as reading;
 use crate::rust::Said;
 use crate::rust::unions as rust;
 use crate::rust::unions::RustUnion;
-
-/// Around a matrix that is lent.
-pub const AROUND: u64 = 0x5ca1_ab1e_0dd5_eed5;
-
-/// What a matrix, a window and a list hold before they are written.
-pub const BEFORE: (u64, u8, u32) = (0x0bad_cafe_f00d_5eed, 0xb7, 0x0bad_cafe);
 
 /// Each call's cases.
 pub struct Calls<'a> {
@@ -115,11 +109,7 @@ impl<'a> Calls<'a> {
         said: Said<(SpokenParts, u64)>,
         kind: Kind,
     ) {
-        let (window, pairs) = (vec![BEFORE.1; input.window], vec![BEFORE.2; input.room]);
-        let ours = lend_parts(&window, &pairs, |window, pairs| {
-            ours::split(input.lg, matrix, window, pairs)
-        });
-        let reading = reading::split(input.lg, matrix, &window, &pairs);
+        let (ours, reading) = asked::split(input.lg, matrix, input.window, input.room);
         let sides = Sides {
             spoken: Answer::accepted(&[ours.answer.values[3]]),
             ours: ours.answer,
@@ -154,9 +144,7 @@ impl<'a> Calls<'a> {
         rust: Said<Spoken<u64>>,
         kind: Kind,
     ) {
-        let matrix = vec![BEFORE.0; length];
-        let ours = lend(&matrix, AROUND, |matrix| ours::expand(sketch, matrix));
-        let reading = reading::expand(sketch, &matrix);
+        let (ours, reading) = asked::expand(sketch, length);
         let source = Source::new(sketch, reading.answer.number);
         let sides = Sides {
             spoken: ours.spoken(length),
@@ -170,13 +158,12 @@ impl<'a> Calls<'a> {
 
     /// In a matrix of so many words.
     pub fn judge_new(&mut self, lg: u8, seed: u64, length: usize, kind: Kind) {
-        let matrix = vec![BEFORE.0; length];
-        let ours = lend(&matrix, AROUND, |matrix| ours::new_union(lg, seed, matrix));
+        let (ours, reading) = asked::new_union(lg, seed, length);
         let sides = Sides {
             spoken: spoken_union(&ours),
-            reading: reading::new_union(lg, seed, &matrix),
-            rust: rust::new_union(lg, seed),
             ours,
+            reading,
+            rust: rust::new_union(lg, seed),
         };
         self.new.judge(NewInput { lg, seed, length }, kind, sides);
     }
@@ -196,9 +183,8 @@ impl<'a> Calls<'a> {
         rust: Said<Spoken<u64>>,
         kind: Kind,
     ) -> Union {
-        let ours = merged(union, source, seed);
+        let (ours, reading) = asked::merge(union, source, seed);
         let after = left(union, &ours);
-        let reading = reading::merge(union, source, seed);
         let refusal = reading.answer.number;
         let input = MergeInput::new(union, source, seed, refusal, &reading.memory);
         let sides = Sides {
@@ -212,15 +198,7 @@ impl<'a> Calls<'a> {
     }
 }
 
-/// Our merge, in a copy of the union's matrix.
-pub fn merged(union: &Union, source: &Sketch, seed: u64) -> Lent<u64> {
-    let record = (union.lg, union.present, union.seed);
-    lend(&union.matrix, AROUND, |matrix| {
-        ours::merge(record, matrix, source, seed)
-    })
-}
-
-fn left(union: &Union, ours: &Lent<u64>) -> Union {
+fn left(union: &Union, ours: &Lent<Vec<u64>>) -> Union {
     let present = match ours.answer.number {
         0 => ours.answer.values[1] as u8,
         _ => union.present,
@@ -233,7 +211,7 @@ fn left(union: &Union, ours: &Lent<u64>) -> Union {
 }
 
 /// The present lg_k, and the words of the present rows.
-fn spoken_union(ours: &Lent<u64>) -> Spoken<u64> {
+fn spoken_union(ours: &Lent<Vec<u64>>) -> Spoken<u64> {
     let present = ours.answer.values[1];
     match ours.answer.number {
         0 => {
@@ -254,11 +232,12 @@ fn column(said: &Said<(SpokenParts, u64)>) -> Said<Answer> {
 }
 
 /// A window that is left unwritten is none.
-fn spoken_parts(ours: &LentParts) -> SpokenParts {
+fn spoken_parts(ours: &LentSplit) -> SpokenParts {
     let [coupons, flavor, offset, _, listed, _] = ours.answer.values;
+    let SplitMemory { window, pairs } = &ours.memory;
     let window = match flavor {
         0 | 1 => vec![],
-        _ => ours.window.clone(),
+        _ => window.clone(),
     };
     match ours.answer.number {
         0 => SpokenParts::Parts(Parts {
@@ -266,7 +245,7 @@ fn spoken_parts(ours: &LentParts) -> SpokenParts {
             flavor,
             offset,
             window,
-            pairs: ours.pairs[..ours.pairs.len().min(listed as usize)].to_vec(),
+            pairs: pairs[..pairs.len().min(listed as usize)].to_vec(),
         }),
         number => SpokenParts::Refusal(number),
     }

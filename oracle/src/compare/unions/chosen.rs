@@ -1,9 +1,9 @@
 //! Inputs as small as each intended difference has them, the same in both profiles.
 
-use super::SEED;
 use super::calls::Calls;
 use super::sketches;
 use crate::cases::Kind;
+use crate::growing::SEED;
 use crate::lent_matrices::Sketch;
 use crate::lent_matrices::Union;
 use crate::rust::unions::refuses_seed;

@@ -3,10 +3,11 @@
 use datasketches::cpc::CpcSketch;
 
 use super::Effort;
-use super::SEED;
 use super::calls::Calls;
 use crate::answer::Spoken;
 use crate::cases::Kind;
+use crate::growing::SEED;
+use crate::growing::grown;
 use crate::lent_matrices::Union;
 use crate::random::Random;
 use crate::rust;
@@ -48,15 +49,6 @@ fn growth(lg: u8, random: &mut Random) -> Vec<CpcSketch> {
         }
     }
     seen
-}
-
-/// A sketch of so many items, by their hashes.
-fn grown(lg: u8, items: u64, random: &mut Random) -> CpcSketch {
-    let mut sketch = CpcSketch::with_seed(lg, SEED).expect("the Rust takes this seed");
-    for _ in 0..items {
-        sketch.update(random.number());
-    }
-    sketch
 }
 
 /// A sketch of so many coupons that may lie in any column, taken in one by one.

@@ -1,11 +1,11 @@
 //! Matrices at lg_k 26, half a gigabyte each: counts, and refusal 10, which nothing smaller has.
 
-use super::SEED;
 use super::calls::Calls;
 use crate::answer::Answer;
 use crate::answer::Outcome;
 use crate::cases::AgainstReading;
 use crate::cases::Kind;
+use crate::growing::SEED;
 use crate::lent_matrices::Sketch;
 use crate::lent_matrices::Union;
 use crate::ours::unions as ours;
@@ -98,20 +98,7 @@ fn judge_sources(cases: &mut AgainstReading) {
         let ours = ours::expand(source, &mut matrix);
         judge_refused(cases, source, ours, reading::expand_answer(source, ROWS));
         for seed in [SEED, SEED + 1] {
-            let ours = ours::merge((LG, LG, SEED), &mut matrix, source, seed);
-            let union = Union {
-                lg: LG,
-                present: LG,
-                seed: SEED,
-                matrix,
-            };
-            judge_refused(
-                cases,
-                source,
-                ours,
-                reading::merge_answer(&union, source, seed),
-            );
-            matrix = union.matrix;
+            matrix = judge_merge(cases, matrix, source, seed);
         }
         assert!(
             matrix.iter().all(|&word| word == 0),
@@ -120,19 +107,26 @@ fn judge_sources(cases: &mut AgainstReading) {
     }
     // A union with the reserved bit is not lawful.
     matrix[ROWS - 1] = LAST_COLUMN;
-    let ours = ours::merge((LG, LG, SEED), &mut matrix, &sources[0], SEED);
+    judge_merge(cases, matrix, &sources[0], SEED);
+}
+
+/// Into a union with this matrix, which is handed back: it is too large to copy.
+fn judge_merge(
+    cases: &mut AgainstReading,
+    mut matrix: Vec<u64>,
+    source: &Sketch,
+    seed: u64,
+) -> Vec<u64> {
+    let ours = ours::merge((LG, LG, SEED), &mut matrix, source, seed);
     let union = Union {
         lg: LG,
         present: LG,
         seed: SEED,
         matrix,
     };
-    judge_refused(
-        cases,
-        &sources[0],
-        ours,
-        reading::merge_answer(&union, &sources[0], SEED),
-    );
+    let reading = reading::merge_answer(&union, source, seed);
+    judge_refused(cases, source, ours, reading);
+    union.matrix
 }
 
 fn judge_refused(cases: &mut AgainstReading, source: &Sketch, ours: Answer, reading: Answer) {

@@ -4,6 +4,8 @@
 
 use std::fmt;
 
+use super::sources::Source;
+use super::sources::WithSource;
 use crate::cases::Class;
 use crate::lent_matrices::Sketch;
 use crate::lent_matrices::Union;
@@ -11,7 +13,7 @@ use crate::listed::Listed;
 use crate::plain_reading::unions as reading;
 use crate::rust::unions::refuses_seed;
 
-fn is_outside(lg: u8) -> bool {
+pub fn is_outside(lg: u8) -> bool {
     !(4..=26).contains(&lg)
 }
 
@@ -145,67 +147,6 @@ pub const COLUMN_CLASSES: &[Class<SplitInput>] = &[
     },
 ];
 
-/// A sketch that is read, and by what number document 01 refuses the call.
-#[derive(Clone, PartialEq, Eq, PartialOrd, Ord)]
-pub struct Source {
-    pub lg: u8,
-    pub coupons: u32,
-    pub window: Listed<u8>,
-    pub pairs: Listed<u32>,
-    refusal: u32,
-    offset: u64,
-    is_past_columns: bool,
-    has_duplicate: bool,
-}
-
-impl Source {
-    pub fn new(sketch: &Sketch, refusal: u32) -> Self {
-        let is_sized = !is_outside(sketch.lg);
-        Self {
-            lg: sketch.lg,
-            coupons: sketch.coupons,
-            window: Listed::of(&sketch.window),
-            pairs: Listed::of(&sketch.pairs),
-            refusal,
-            offset: reading::offset_of(sketch.lg, sketch.coupons.into()),
-            is_past_columns: is_sized && reading::row_past_columns(sketch).is_some(),
-            has_duplicate: refusal == 11 && has_duplicate(&sketch.pairs),
-        }
-    }
-
-    fn is_over(&self) -> bool {
-        self.refusal == 17 && u64::from(self.coupons) > 64 << self.lg
-    }
-
-    fn has_no_window(&self) -> bool {
-        !reading::has_window(self.lg, self.coupons.into())
-    }
-
-    /// Lawful, but the Rust asserts in debug that an offset is 56 at the most.
-    fn is_past_assertion(&self) -> bool {
-        cfg!(debug_assertions) && self.refusal == 0 && self.offset > 56
-    }
-}
-
-impl fmt::Display for Source {
-    fn fmt(&self, f: &mut fmt::Formatter<'_>) -> fmt::Result {
-        let Self {
-            lg,
-            coupons,
-            window,
-            pairs,
-            ..
-        } = self;
-        write!(f, "{lg} {coupons}, window {window}, pairs {pairs}")
-    }
-}
-
-fn has_duplicate(pairs: &[u32]) -> bool {
-    let mut sorted = pairs.to_vec();
-    sorted.sort_unstable();
-    sorted.windows(2).any(|two| two[0] == two[1])
-}
-
 /// A sketch to expand, into a matrix of such a length.
 #[derive(Clone, PartialEq, Eq, PartialOrd, Ord)]
 pub struct ExpandInput {
@@ -219,104 +160,32 @@ impl fmt::Display for ExpandInput {
     }
 }
 
-impl AsRef<Source> for ExpandInput {
-    fn as_ref(&self) -> &Source {
+impl WithSource for ExpandInput {
+    fn source(&self) -> &Source {
         &self.source
     }
 }
 
-const fn over_64k<I: AsRef<Source>>() -> Class<I> {
-    Class {
-        name: "more than 64k coupons",
-        sides: "ours refuses 17, the Rust takes them, or panics",
-        holds: |input| input.as_ref().is_over(),
-    }
-}
-
-const fn window_of_few<I: AsRef<Source>>() -> Class<I> {
-    Class {
-        name: "a window with an Empty or Sparse sketch",
-        sides: "ours refuses 2, the Rust takes it, or does not look at it",
-        holds: |input| input.as_ref().refusal == 2 && input.as_ref().has_no_window(),
-    }
-}
-
-const fn window_length<I: AsRef<Source>>() -> Class<I> {
-    Class {
-        name: "window not k bytes",
-        sides: "ours refuses 2, the Rust panics, or does not look beyond k bytes, or sees no window",
-        holds: |input| input.as_ref().refusal == 2,
-    }
-}
-
-const fn row_outside<I: AsRef<Source>>() -> Class<I> {
-    Class {
-        name: "a row not below k",
-        sides: "ours refuses 8, the Rust panics",
-        holds: |input| input.as_ref().refusal == 8,
-    }
-}
-
-const fn not_increasing<I: AsRef<Source>>() -> Class<I> {
-    Class {
-        name: "a pair not above the one before, without duplicates",
-        sides: "ours refuses 11, the Rust takes any order",
-        holds: |input| input.as_ref().refusal == 11 && !input.as_ref().has_duplicate,
-    }
-}
-
-const fn duplicate<I: AsRef<Source>>() -> Class<I> {
-    Class {
-        name: "a duplicate, or one besides another fault",
-        sides: "ours refuses 11 at its place, the Rust refuses a duplicate without a place, or panics",
-        holds: |input| input.as_ref().refusal == 11,
-    }
-}
-
-const fn past_columns<I: AsRef<Source>>() -> Class<I> {
-    Class {
-        name: "a window bit past column 63",
-        sides: "ours refuses 14, the Rust drops it, and panics in debug where it builds a matrix",
-        holds: |input| input.as_ref().refusal == 14 && input.as_ref().is_past_columns,
-    }
-}
-
-const fn false_coupons<I: AsRef<Source>>() -> Class<I> {
-    Class {
-        name: "stated coupons that differ from those held",
-        sides: "ours refuses 17, the Rust takes them",
-        holds: |input| input.as_ref().refusal == 17,
-    }
-}
-
-const fn past_assertion<I: AsRef<Source>>() -> Class<I> {
-    Class {
-        name: "an offset from 57 to 61, in debug",
-        sides: "ours takes it, the Rust panics by an assertion of debug",
-        holds: |input| input.as_ref().is_past_assertion(),
-    }
-}
-
 pub const EXPAND_CLASSES: &[Class<ExpandInput>] = &[
-    over_64k(),
+    ExpandInput::OVER_64K,
     Class {
         name: "matrix not k words",
         sides: "ours refuses 2, the Rust makes its own",
         holds: |input| input.source.refusal == 2 && input.length != 1 << input.source.lg,
     },
-    window_of_few(),
-    window_length(),
-    row_outside(),
-    not_increasing(),
-    duplicate(),
-    past_columns(),
+    ExpandInput::WINDOW_OF_FEW,
+    ExpandInput::WINDOW_LENGTH,
+    ExpandInput::ROW_OUTSIDE,
+    ExpandInput::NOT_INCREASING,
+    ExpandInput::DUPLICATE,
+    ExpandInput::PAST_COLUMNS,
     Class {
         name: "a listed pair inside the window's columns",
         sides: "ours refuses 14, the Rust flips the window's bit",
         holds: |input| input.source.refusal == 14,
     },
-    false_coupons(),
-    past_assertion(),
+    ExpandInput::FALSE_COUPONS,
+    ExpandInput::PAST_ASSERTION,
 ];
 
 #[derive(Clone, PartialEq, Eq, PartialOrd, Ord)]
@@ -400,8 +269,8 @@ impl fmt::Display for MergeInput {
     }
 }
 
-impl AsRef<Source> for MergeInput {
-    fn as_ref(&self) -> &Source {
+impl WithSource for MergeInput {
+    fn source(&self) -> &Source {
         &self.source
     }
 }
@@ -417,20 +286,20 @@ pub const MERGE_CLASSES: &[Class<MergeInput>] = &[
         sides: "ours refuses by that, the Rust refuses 16 if it has the sketch at all",
         holds: |input| input.seed != input.other && ![0, 1, 16].contains(&input.source.refusal),
     },
-    over_64k(),
-    window_of_few(),
-    window_length(),
-    row_outside(),
-    not_increasing(),
-    duplicate(),
-    past_columns(),
+    MergeInput::OVER_64K,
+    MergeInput::WINDOW_OF_FEW,
+    MergeInput::WINDOW_LENGTH,
+    MergeInput::ROW_OUTSIDE,
+    MergeInput::NOT_INCREASING,
+    MergeInput::DUPLICATE,
+    MergeInput::PAST_COLUMNS,
     Class {
         name: "a listed pair inside the window's columns",
         sides: "ours refuses 14, the Rust ORs it, or flips the window's bit of a Sliding sketch",
         holds: |input| input.source.refusal == 14,
     },
-    false_coupons(),
-    past_assertion(),
+    MergeInput::FALSE_COUPONS,
+    MergeInput::PAST_ASSERTION,
     Class {
         name: "few coupons that are many once folded",
         sides: "ours takes them, the Rust's table or assertion may panic",

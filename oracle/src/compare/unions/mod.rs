@@ -1,5 +1,6 @@
 //! Matrices and unions.
 
+mod asked;
 mod calls;
 mod chosen;
 mod grown;
@@ -8,16 +9,15 @@ mod inputs;
 mod lent;
 mod refusals;
 mod sketches;
+mod sources;
 
 use self::calls::Calls;
 use self::lent::LentCalls;
 use crate::cases::Kind;
 use crate::cases::RustAnswers;
+use crate::growing::SEED;
 use crate::lent_matrices::Union;
 use crate::random::Random;
-
-/// The seed of most unions and sketches.
-const SEED: u64 = 9001;
 
 /// How the columns of a matrix lie: see `sketches::matrix`.
 const DISORDERS: [u64; 4] = [1, 3, 12, 64];

@@ -1,8 +1,8 @@
 //! Every choice of faults together, so that the order of the refusals shows.
 
-use super::SEED;
 use super::lent::LentCalls;
 use super::sketches;
+use crate::growing::SEED;
 use crate::lent_matrices::Sketch;
 use crate::lent_matrices::Union;
 use crate::plain_reading::unions::offset_of;
