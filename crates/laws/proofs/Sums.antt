@@ -25,6 +25,11 @@ unfolding sumBelow
 sum-same zero f g h = refl
 sum-same (suc n) f g h = ap₂ _+_ (sum-same n f g (λ i l. h i (omega arith))) (h n (omega arith))
 
+pub sum-mono : (n : ℕ) (f g : ℕ → ℕ) → ((i : ℕ) → i < n → f i ≤ g i) → sumBelow n f ≤ sumBelow n g
+unfolding sumBelow
+sum-mono zero f g h = omega arith
+sum-mono (suc n) f g h = omega (arith, sum-mono n f g (λ i l. h i (omega arith)), h n (omega arith))
+
 pub sum-split : (a b : ℕ) (f : ℕ → ℕ) → sumBelow (a + b) f ≡ sumBelow a f + sumBelow b (λ i. f (a + i))
 unfolding sumBelow
 sum-split a zero f = ap (λ (m : ℕ). sumBelow m f) (add-zero a) ∙ sym (add-zero (sumBelow a f))

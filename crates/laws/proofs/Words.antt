@@ -2,15 +2,17 @@
 use mathlib.Core.Path.{_≡_, refl, sym, ap, ap₂, _∙_, subst}
 use mathlib.Core.Logic.{⊎-elim}
 use mathlib.Core.Bool.{Bool, true, false, _||_}
-use Prim.Native.Nat.{ℕ, zero, suc, _+_, _*_, _/_, _%_, _^_, _<_}
+use Prim.Native.Nat.{ℕ, zero, suc, _+_, _*_, _/_, _%_, _^_, _≤_, _<_}
 use native.Mathlib.Nat.{pow-suc, not-suc-le-zero, eq-or-lt-of-le, le-of-suc-le-suc, add-comm}
+use native.Mathlib.Numerals.{add-one}
 use native.Mathlib.Omega.{arith}
 use lib.Dec.{eqb}
-use lib.Pow.{pow-pos, high, low}
+use lib.Pow.{pow-pos, pow-mono, high, low}
 use lib.Bits.{bitOr, or-lt}
 use Rattle.laws.specs.Below.{one}
 use Rattle.laws.specs.Columns.{has, wordOf}
 use Rattle.laws.proofs.Columns.{has-or, has-low, has-zero, word-ext}
+use Rattle.laws.proofs.Truths.{or-assoc}
 
 top-lt : (b : Bool) (r n : ℕ) → r < 2 ^ n → r + one b * 2 ^ n < 2 ^ suc n
 top-lt true r n h = omega (arith, pow-suc 2 n)
@@ -20,6 +22,15 @@ pub wordOf-lt : (n : ℕ) (p : ℕ → Bool) → wordOf n p < 2 ^ n
 unfolding wordOf
 wordOf-lt zero p = omega arith
 wordOf-lt (suc n) p = top-lt (p n) (wordOf n p) n (wordOf-lt n p)
+
+-- no column, and one column more
+pub wordOf-zero : (p : ℕ → Bool) → wordOf 0 p ≡ 0
+unfolding wordOf
+wordOf-zero p = refl
+
+pub wordOf-more : (n : ℕ) (p : ℕ → Bool) → wordOf (n + 1) p ≡ wordOf n p + one (p n) * 2 ^ n
+unfolding wordOf
+wordOf-more n p = ap (λ (k : ℕ). wordOf k p) (add-one n)
 
 has-top : (b : Bool) (r n : ℕ) → r < 2 ^ n → has (r + one b * 2 ^ n) n ≡ b
 unfolding has
@@ -60,3 +71,31 @@ pub or-wordOf : (n : ℕ) (p q : ℕ → Bool) → bitOr (wordOf n p) (wordOf n 
 or-wordOf n p q =
     word-is n _ (λ c. p c || q c) (or-lt n _ _ (wordOf-lt n p) (wordOf-lt n q))
     (λ c l. has-or (wordOf n p) (wordOf n q) c ∙ ap₂ _||_ (has-wordOf n p c l) (has-wordOf n q c l))
+
+-- ---- the order in which words are ORed does not matter
+
+own-power : (n : ℕ) → n < 2 ^ n
+own-power zero = omega arith
+own-power (suc n) = omega (arith, pow-suc 2 n, own-power n)
+
+pub or-words : (a b c : ℕ) → bitOr (bitOr a b) c ≡ bitOr a (bitOr b c)
+or-words a b c =
+    word-ext n (bitOr (bitOr a b) c) (bitOr a (bitOr b c)) (or-lt n _ _ (or-lt n a b ha hb) hc) (or-lt n _ _ ha (or-lt n b c hb hc))
+    (λ d l.
+    has-or (bitOr a b) c d ∙ ap (λ (t : Bool). t || has c d) (has-or a b d) ∙ or-assoc (has a d) (has b d) (has c d)
+    ∙ sym (has-or a (bitOr b c) d ∙ ap (λ (t : Bool). has a d || t) (has-or b c d)))
+  where
+    n : ℕ
+    n = a + b + c
+
+    below : (x : ℕ) → x ≤ n → x < 2 ^ n
+    below x h = let p : 2 ^ x ≤ 2 ^ n = pow-mono {i = x} {j = n} h in omega (arith, own-power x)
+
+    ha : a < 2 ^ n
+    ha = below a (omega arith)
+
+    hb : b < 2 ^ n
+    hb = below b (omega arith)
+
+    hc : c < 2 ^ n
+    hc = below c (omega arith)

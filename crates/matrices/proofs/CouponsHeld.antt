@@ -103,7 +103,7 @@ count-extend n d p e =
     ∙ omega arith
 
 -- the columns below o
-count-low : (o : ℕ) → o ≤ 64 → countBelow 64 (λ c. ltb c o) ≡ o
+pub count-low : (o : ℕ) → o ≤ 64 → countBelow 64 (λ c. ltb c o) ≡ o
 count-low o l =
     let e : 64 ≡ o + (64 - o) = omega arith in
     ap (λ (n : ℕ). countBelow n (λ c. ltb c o)) e
@@ -173,7 +173,7 @@ module _ (o b : ℕ) (small : o ≤ 64) (byte : b < 2 ^ 8) (inside : (i : ℕ) �
 
 -- ---- all rows
 
-sum-const : (k o : ℕ) → sumBelow k (λ r. o) ≡ o * k
+pub sum-const : (k o : ℕ) → sumBelow k (λ r. o) ≡ o * k
 unfolding sumBelow
 sum-const zero o = omega arith
 sum-const (suc k) o = omega (arith, sum-const k o)

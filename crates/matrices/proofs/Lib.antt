@@ -18,6 +18,7 @@ pub mod Bridges
 pub mod SplitCount
 pub mod Judged
 pub mod CouponsHeld
+pub mod SplitMost
 pub mod LateReserved
 pub mod Places
 pub mod Accepting

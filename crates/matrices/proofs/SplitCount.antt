@@ -1,16 +1,14 @@
--- The pass that counts the pairs of a split before it writes them, and rows that list nothing. Assumes nothing.
-use mathlib.Core.Path.{_≡_, ap, ap₂, _∙_}
+-- The pass that counts the pairs of a split before it writes them. Assumes nothing.
+use mathlib.Core.Path.{_≡_, ap, _∙_}
 use mathlib.Core.Bool.{Bool}
-use mathlib.Core.List.{List, _++_, append-nil}
-use Prim.Native.Nat.{ℕ, zero, suc, _+_, _^_, _<_}
-use native.Mathlib.Omega.{arith}
+use mathlib.Core.List.{List}
+use Prim.Native.Nat.{ℕ, _+_, _^_, _<_}
 use lib.Count.{ones}
 use lib.ListN.{length, getD, length-append}
 use Rattle.matrices.specs.Parts.{surpriseWord}
 use Rattle.matrices.specs.Shapes.{rowPairs}
 use Rattle.matrices.proofs.Bridges.{row-length}
 use Rattle.matrices.proofs.FirstColumn.{surprise-lt}
-use Rattle.matrices.proofs.Listed.{row-none}
 use Rattle.matrices.proofs.SplitTurn.{listedTo, to-none, to-more}
 
 module _ (wide : Bool) (o : ℕ) (m : List ℕ) where
@@ -23,14 +21,3 @@ module _ (wide : Bool) (o : ℕ) (m : List ℕ) where
   length-more r h =
       ap length (to-more wide o m r) ∙ length-append (listedTo wide o m r) (rowPairs r (surpriseWord wide o (getD m r 0)))
       ∙ ap (λ (x : ℕ). length (listedTo wide o m r) + x) (row-length r (surpriseWord wide o (getD m r 0)) (surprise-lt wide o (getD m r 0) h))
-
-  -- rows without a surprise add nothing, however many are skipped
-  pub to-skip : (r n : ℕ) → ((i : ℕ) → i < n → surpriseWord wide o (getD m (r + i) 0) ≡ 0) → listedTo wide o m (r + n) ≡ listedTo wide o m r
-  to-skip r zero e =
-      let q : r + 0 ≡ r = omega arith in
-      ap (listedTo wide o m) q
-  to-skip r (suc n) e =
-      let q : r + suc n ≡ r + n + 1 = omega arith in
-      ap (listedTo wide o m) q ∙ to-more wide o m (r + n)
-      ∙ ap₂ (λ (l : List ℕ) (w : ℕ). l ++ rowPairs (r + n) w) (to-skip r n (λ i h. e i (omega arith))) (e n (omega arith))
-      ∙ ap (λ (l : List ℕ). listedTo wide o m r ++ l) (row-none (r + n)) ∙ append-nil (listedTo wide o m r)

@@ -1,5 +1,8 @@
 -- Laws that belong to no one function.
+pub mod Adding
 pub mod Answered
+pub mod Blocks
+pub mod Cutting
 pub mod EarlyPairs
 pub mod EightBytes
 pub mod Flips

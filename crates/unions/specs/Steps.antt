@@ -1,29 +1,31 @@
 -- How private contracts say it: what is judged so far, and work half done. Nothing here has to be believed. Assumes nothing.
 use mathlib.Core.Path.{_≡_}
-use Prim.Native.Nat.{ℕ, _+_, _-_, _*_, _/_, _%_, _^_, _≤_, _<_}
+use Prim.Native.Nat.{ℕ, zero, suc, _+_, _-_, _*_, _/_, _%_, _^_, _≤_, _<_}
 use mathlib.Core.Bool.{Bool, true, not, _&&_, _||_}
-use mathlib.Core.List.{List, [], _∷_}
+use mathlib.Core.List.{List, [], _∷_, _++_}
+use lib.Bits.{bitAnd, bitOr, bitXor}
 use lib.Count.{trailingZeros}
 use lib.Dec.{eqb, leb, ltb}
-use lib.ListN.{length, getD}
+use lib.ListN.{length, getD, drop}
 use Rattle.laws.specs.Below.{anyBelow, everyBelow}
 use Rattle.laws.specs.Choose.{choose}
-use Rattle.laws.specs.Columns.{has}
-use Rattle.refusals.specs.Outcome.{Outcome, accepted, refused}
+use Rattle.laws.specs.Columns.{has, wordOf}
+use Rattle.refusals.specs.Outcome.{Outcome, accepted, refused, ifAccepted}
 use Rattle.refusals.specs.Told.{told}
 use Rattle.numbers.specs.Calls.{outside}
 use Rattle.numbers.specs.Numbers.{flavorAt, offsetAt}
 use Rattle.numbers.specs.Told.{flavorNumber}
 use Rattle.pair_lists.specs.Lists.{pairsJudged}
-use Rattle.matrices.specs.Calls.{wrongRows, offsetIn, windowIn, listed}
-use Rattle.matrices.specs.Listing.{inList}
+use Rattle.matrices.specs.Calls.{offsetIn, windowIn, listed}
+use Rattle.matrices.specs.Listing.{inList, listFrom}
 use Rattle.matrices.specs.Matrix.{at, matrixOf, coupons, reserved, inWindow}
 use Rattle.matrices.specs.Parts.{surpriseWord, surprisePairs, firstColumn}
-use Rattle.matrices.specs.Shapes.{folded, merged, joinedAt, Sorted}
+use Rattle.matrices.specs.Shapes.{folded, merged, joinedAt, Sorted, windows}
 use Rattle.matrices.specs.Source.{hasWindow, held, columnsJudged}
 use Rattle.unions.specs.declared.planning.Plan.{Plan}
 use Rattle.unions.specs.declared.planning.Plan.the-variants as plan
 use Rattle.unions.specs.declared.planning.Shape.{Shape}
+use Rattle.unions.specs.declared.splitting.Cut.{Cut}
 use Rattle.unions.specs.declared.splitting.Surprises.{Surprises}
 
 -- a source with a window, but for its late pairs, those past the window: below the window each column but those of the listed pairs
@@ -139,12 +141,6 @@ heldJudged lg c window ps =
 pub record QuietIf (w : ℕ) (wide : Bool) (o : ℕ) (m : List ℕ) (from to : ℕ) : Type 0 where
   pub none : w ≡ 0 → (t : ℕ) → from ≤ t → t < to → surpriseWord wide o (getD m t 0) ≡ 0
 
--- a row that is reached over rows without a surprise
-pub record SkippedTo (wide : Bool) (o : ℕ) (m : List ℕ) (from r : ℕ) : Type 0 where
-  pub least : from ≤ r
-  pub within : r < length m
-  pub quiet : (t : ℕ) → from ≤ t → t < r → surpriseWord wide o (getD m t 0) ≡ 0
-
 -- all surprise words of a matrix ORed, and how many surprises there are
 pub record SurpriseSum (wide : Bool) (o : ℕ) (m : List ℕ) (s : Surprises) : Type 0 where
   pub first : trailingZeros 64 (s .ored) ≡ firstColumn wide o m
@@ -157,12 +153,47 @@ roomJudged lg m room =
     (accepted
     (coupons m ∷ flavorNumber (flavorAt (2 ^ lg) (coupons m)) ∷ offsetIn lg m ∷ firstColumn (windowIn lg m) (offsetIn lg m) m ∷ length (listed lg m) ∷ []))
 
--- 1, 2, 10, 5: for a window of so many bytes and a list of so much room
-unfoldable pub splitJudged : ℕ → List ℕ → ℕ → ℕ → Outcome
-splitJudged lg m bytes room =
-    choose (outside lg) (refused 1 0)
-    (choose (wrongRows lg m || not (eqb bytes (2 ^ lg))) (refused 2 0) (choose (reserved lg m) (refused 10 67108863) (roomJudged lg m room)))
-
 -- four bytes as one number, lowest first
 abbrev pub fourAt : List ℕ → ℕ → ℕ
 fourAt bytes i = getD bytes i 0 + getD bytes (i + 1) 0 * 256 + getD bytes (i + 2) 0 * 65536 + getD bytes (i + 3) 0 * 16777216
+
+-- what is kept of a word, with what is flipped, is its surprise word
+pub record CutAt (c : Cut) : Type 0 where
+  pub word : (w : ℕ) → w < 2 ^ 64 → bitXor (bitAnd w (c .kept)) (c .flipped) ≡ surpriseWord (c .wide) (c .offset) w
+
+-- which of eight rows hold a surprise
+abbrev pub hitRows : Bool → ℕ → List ℕ → ℕ → ℕ
+hitRows wide o m r = wordOf 8 (λ j. not (eqb (surpriseWord wide o (getD m (r + j) 0)) 0))
+
+-- the surprises of n rows from row r on
+abbrev pub pairsFrom : Bool → ℕ → List ℕ → ℕ → ℕ → List ℕ
+pairsFrom wide o m r n = listFrom (64 * r) (64 * n) (λ x. has (surpriseWord wide o (getD m (x / 64) 0)) (x % 64))
+
+-- the surprises of the first n of some blocks of eight rows, which are given by their first rows
+unfoldable pub blockPairs : Bool → ℕ → List ℕ → List ℕ → ℕ → List ℕ
+blockPairs wide o m found zero = []
+blockPairs wide o m found (suc n) = blockPairs wide o m found n ++ pairsFrom wide o m (getD found n 0) 8
+
+-- blocks that hold all surprises of the rows from `from` to `to`
+pub record Found (wide : Bool) (o : ℕ) (m : List ℕ) (from to : ℕ) (found : List ℕ) (n : ℕ) : Type 0 where
+  pub few : from + 8 * n ≤ to
+  pub within : (i : ℕ) → i < n → getD found i 0 + 8 ≤ length m
+  pub all : pairsFrom wide o m from (to - from) ≡ blockPairs wide o m found n
+
+-- the columns of pairs
+unfoldable pub columnsOf : List ℕ → ℕ
+columnsOf [] = 0
+columnsOf (p ∷ more) = bitOr (2 ^ (p % 64)) (columnsOf more)
+
+-- pairs are listed: after whatever pairs were written over the front of what was lent
+pub record Added (ps : List ℕ) (before : Surprises) (out : List ℕ) (after : Surprises) (left : List ℕ) : Type 0 where
+  pub count : after .count ≡ before .count + length ps
+  pub ored : after .ored ≡ bitOr (before .ored) (columnsOf ps)
+  pub list : (written lent : List ℕ) → before .count ≡ length written → out ≡ written ++ drop (length written) lent
+      → left ≡ (written ++ ps) ++ drop (length (written ++ ps)) lent
+
+-- what a split answers and leaves, where neither 1 nor 2 nor 10 is due
+pub record SplitLeft (lg : ℕ) (m window out : List ℕ) (answer : Outcome) (bytes pairs : List ℕ) : Type 0 where
+  pub told : answer ≡ roomJudged lg m (length out)
+  pub parted : bytes ≡ ifAccepted (roomJudged lg m (length out)) (choose (windowIn lg m) (windows (offsetIn lg m) m) window) window
+  pub written : pairs ≡ ifAccepted (roomJudged lg m (length out)) (listed lg m ++ drop (length (listed lg m)) out) out

@@ -91,12 +91,19 @@ pub fn split(lg: u8, matrix: &[u64], window: &mut [u8], pairs: &mut [u32]) -> Sp
         × (now (window .exit) ≡ splitWindow lg (now (matrix .entry)) (now (window .entry)) (now (pairs .entry)))
         × (now (pairs .exit) ≡ splitPairs lg (now (matrix .entry)) (now (window .entry)) (now (pairs .entry))) ⌝ }
 {
-    match splitting::judge_split(lg, matrix, window.len(), pairs.len()) {
-        SplitAnswer::Refused(why) => SplitAnswer::Refused(why),
-        SplitAnswer::Parted(parts) => {
-            let flavor = parts.flavor;
-            splitting::write_parts(matrix, flavor, parts.offset as u64, window, pairs);
-            SplitAnswer::Parted(parts)
+    match rows(lg) {
+        RowsAnswer::Refused(why) => SplitAnswer::Refused(why),
+        RowsAnswer::Rows(k) => {
+            if (matrix.len() as u64) != k {
+                return SplitAnswer::Refused(Refusal::WrongLength);
+            }
+            if (window.len() as u64) != k {
+                return SplitAnswer::Refused(Refusal::WrongLength);
+            }
+            if counting::has_reserved(lg, matrix) {
+                return SplitAnswer::Refused(Refusal::Reserved { place: 67108863 });
+            }
+            splitting::split_rows(lg, matrix, window, pairs)
         }
     }
 }

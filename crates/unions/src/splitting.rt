@@ -1,176 +1,152 @@
 // A matrix split at the offset of its own count: a window byte for each row, and the increasing list of the surprises.
-// After src/cpc/union.rs (to_sketch) of the Rust crate datasketches 0.5.0 (Apache-2.0); changed: the surprises go straight into a lent list, which is in order already; they are counted first, so
-// that nothing is written where there is no room; and the first interesting column is not capped at the offset.
+// After src/cpc/union.rs (to_sketch) of the Rust crate datasketches 0.5.0 (Apache-2.0); changed: the surprises go straight into a lent list, which is in order already; rows without one are
+// passed over eight at a time; the surprises are counted first where the room might not do, so that nothing is written then; and the first interesting column is not capped at the offset.
 ghost use mathlib.Core.Path.{_≡_};
-ghost use mathlib.Core.Bool.{false};
+ghost use mathlib.Core.Bool.{false, not};
 ghost use mathlib.Core.List.{_++_};
-ghost use Prim.Native.Nat.{_+_, _^_, _≤_, _<_};
-ghost use lib.ListN.{length, drop};
+ghost use Prim.Native.Nat.{ℕ, _+_, _%_, _^_, _≤_, _<_};
+ghost use lib.Dec.{eqb, ltb};
+ghost use lib.ListN.{length, getD, drop};
 ghost use lib.Seq.{paste};
+ghost use Rattle.laws.specs.Below.{one};
 ghost use Rattle.laws.specs.Choose.{choose};
-ghost use Rattle.matrices.specs.Matrix.{reserved};
-ghost use Rattle.matrices.specs.Parts.{windowed, surpriseWord, surprisePairs};
+ghost use Rattle.matrices.specs.Matrix.{coupons, reserved};
+ghost use Rattle.matrices.specs.Parts.{surpriseWord, surprisePairs};
 ghost use Rattle.matrices.specs.Shapes.{rowPairs, windows};
-ghost use Rattle.unions.specs.Steps.{QuietIf, SkippedTo, SurpriseSum, splitJudged, roomJudged};
+ghost use Rattle.unions.specs.Steps.{CutAt, QuietIf, Found, Added, SurpriseSum, SplitLeft, hitRows, pairsFrom, blockPairs};
 ghost use Rattle.unions.specs.Told.{toldSplit};
 use super::SplitAnswer;
 use super::Summary;
 use super::counting::count_ones_in;
-use super::counting::has_reserved;
 use super::planning::Plan;
-use super::planning::has_window;
+use super::planning::Shape;
 use super::planning::shape_of;
 use super::words::surprises_of;
 use super::words::window_of;
-use numbers::Flavor;
-use numbers::RowsAnswer;
-use numbers::rows;
 use refusals::Refusal;
 
-// The surprise word of a row: where there is no window, the word itself.
-fn surprise_word(w: u64, wide: bool, offset: u64) -> u64
+// How a row's word is cut: what is kept of it, with what is flipped, is its surprise word.
+pub struct Cut {
+    pub wide: bool,
+    pub offset: u64,
+    pub kept: u64,
+    pub flipped: u64,
+}
+
+// An empty word's surprises are what is flipped, and a full word has besides them what is kept. Where there is no window, a word is its own surprise word.
+fn cut_at(wide: bool, offset: u64) -> Cut
     requires { ⌜ offset < 64 ⌝ }
-    ensures { λ r. ⌜ r ≡ surpriseWord wide offset w ⌝ }
+    ensures { λ r. ⌜ (r .wide ≡ wide) × (r .offset ≡ offset) × CutAt r ⌝ }
 {
     if wide {
-        return surprises_of(w, offset);
+        let flipped = surprises_of(0, offset);
+        let full = surprises_of(0xFFFF_FFFF_FFFF_FFFF, offset);
+        return Cut {
+            wide: true,
+            offset: offset,
+            kept: full ^ flipped,
+            flipped: flipped,
+        };
     }
-    w
+    Cut {
+        wide: false,
+        offset: offset,
+        kept: 0xFFFF_FFFF_FFFF_FFFF,
+        flipped: 0,
+    }
 }
 
-// The surprise words of two rows, of four and of eight, ORed.
-fn any_of_two(matrix: &[u64], r: usize, wide: bool, offset: u64) -> u64
-    requires { ⌜ (r + 2 ≤ length (now matrix)) × (offset < 64) ⌝ }
-    ensures { λ w. ⌜ QuietIf w wide offset (now (matrix .entry)) r (r + 2) ⌝ }
+// The surprise word of a row.
+fn surprise_word(w: u64, cut: Cut) -> u64
+    requires { ⌜ CutAt cut ⌝ }
+    ensures { λ r. ⌜ r ≡ surpriseWord (cut .wide) (cut .offset) w ⌝ }
 {
-    surprise_word(matrix[r], wide, offset) | surprise_word(matrix[r + 1], wide, offset)
+    (w & cut.kept) ^ cut.flipped
 }
 
-fn any_of_four(matrix: &[u64], r: usize, wide: bool, offset: u64) -> u64
-    requires { ⌜ (r + 4 ≤ length (now matrix)) × (offset < 64) ⌝ }
-    ensures { λ w. ⌜ QuietIf w wide offset (now (matrix .entry)) r (r + 4) ⌝ }
+// 1 for a word that is not 0.
+fn one_if(w: u64) -> u64
+    ensures { λ r. ⌜ (r ≡ one (not (eqb w 0))) × (r ≤ 1) ⌝ }
 {
-    any_of_two(matrix, r, wide, offset) | any_of_two(matrix, r + 2, wide, offset)
+    if w != 0 {
+        return 1;
+    }
+    0
 }
 
-fn any_of_eight(matrix: &[u64], r: usize, wide: bool, offset: u64) -> u64
-    requires { ⌜ (r + 8 ≤ length (now matrix)) × (offset < 64) ⌝ }
-    ensures { λ w. ⌜ QuietIf w wide offset (now (matrix .entry)) r (r + 8) ⌝ }
+// The surprise words of eight rows, ORed.
+fn any_of_eight(matrix: &[u64], r: usize, cut: Cut) -> u64
+    requires { ⌜ CutAt cut × (r + 8 ≤ length (now matrix)) ⌝ }
+    ensures { λ w. ⌜ QuietIf w (cut .wide) (cut .offset) (now (matrix .entry)) r (r + 8) ⌝ }
 {
-    any_of_four(matrix, r, wide, offset) | any_of_four(matrix, r + 4, wide, offset)
+    let mut all: u64 = 0;
+    let mut j: usize = 0;
+    while j < 8 {
+        all = all | surprise_word(matrix[r + j], cut);
+        j += 1;
+    }
+    all
 }
 
-// Eight rows at a time are skipped while they hold no surprise, short of the last row.
-fn skip_eights(matrix: &[u64], from: usize, wide: bool, offset: u64) -> usize
-    requires { ⌜ (from < length (now matrix)) × (length (now matrix) ≤ 67108864) × (offset < 64) ⌝ }
-    ensures { λ r. ⌜ SkippedTo wide offset (now (matrix .entry)) from r ⌝ }
+// Which of eight rows hold a surprise, as the columns of a word.
+fn hit_rows(matrix: &[u64], r: usize, cut: Cut) -> u64
+    requires { ⌜ CutAt cut × (r + 8 ≤ length (now matrix)) ⌝ }
+    ensures { λ w. ⌜ w ≡ hitRows (cut .wide) (cut .offset) (now (matrix .entry)) r ⌝ }
 {
+    let mut hits: u64 = 0;
+    let mut j: usize = 0;
+    while j < 8 {
+        hits += one_if(surprise_word(matrix[r + j], cut)) << j;
+        j += 1;
+    }
+    hits
+}
+
+// The blocks of eight rows that hold a surprise, up to 64 of them. No branch depends on the rows: each block is noted, and the next is noted over it if it holds none.
+fn find_blocks(matrix: &[u64], from: usize, to: usize, cut: Cut, found: &mut [usize]) -> usize
+    requires { ⌜ CutAt cut × (from ≤ to) × (to ≤ from + 512) × (to ≤ length (now matrix)) × (from % 8 ≡ 0) × (to % 8 ≡ 0) × (length (now found) ≡ 64) ⌝ }
+    ensures { λ n. ⌜ Found (cut .wide) (cut .offset) (now (matrix .entry)) from to (now (found .exit)) n ⌝ }
+{
+    let mut n: usize = 0;
     let mut r = from;
-    while r + 8 < matrix.len() {
-        if any_of_eight(matrix, r, wide, offset) != 0 {
-            return r;
-        }
+    while r < to {
+        found[n] = r;
+        n += one_if(any_of_eight(matrix, r, cut)) as usize;
         r += 8;
     }
-    r
-}
-
-// The same row by row.
-fn skip_rows(matrix: &[u64], from: usize, wide: bool, offset: u64) -> usize
-    requires { ⌜ (from < length (now matrix)) × (length (now matrix) ≤ 67108864) × (offset < 64) ⌝ }
-    ensures { λ r. ⌜ SkippedTo wide offset (now (matrix .entry)) from r ⌝ }
-{
-    let mut r = from;
-    while r + 1 < matrix.len() {
-        if surprise_word(matrix[r], wide, offset) != 0 {
-            return r;
-        }
-        r += 1;
-    }
-    r
-}
-
-// The next row with a surprise, or the last row.
-fn next_surprise(matrix: &[u64], from: usize, wide: bool, offset: u64) -> usize
-    requires { ⌜ (from < length (now matrix)) × (length (now matrix) ≤ 67108864) × (offset < 64) ⌝ }
-    ensures { λ r. ⌜ SkippedTo wide offset (now (matrix .entry)) from r ⌝ }
-{
-    let near = skip_eights(matrix, from, wide, offset);
-    skip_rows(matrix, near, wide, offset)
+    n
 }
 
 pub struct Surprises {
     // all surprise words ORed
     pub ored: u64,
     // how many surprises there are
-    pub count: u64,
+    pub count: usize,
 }
 
 // The surprises of a matrix, counted before any is written.
-fn survey(matrix: &[u64], wide: bool, offset: u64) -> Surprises
-    requires { ⌜ (length (now matrix) ≤ 67108864) × (offset < 64) ⌝ }
-    ensures { λ r. ⌜ SurpriseSum wide offset (now (matrix .entry)) r ⌝ }
+fn survey(matrix: &[u64], cut: Cut) -> u64
+    requires { ⌜ CutAt cut × (length (now matrix) ≤ 67108864) ⌝ }
+    ensures { λ r. ⌜ r ≡ length (surprisePairs (cut .wide) (cut .offset) (now (matrix .entry))) ⌝ }
 {
-    let mut ored: u64 = 0;
     let mut count: u64 = 0;
     let mut r = 0;
     while r < matrix.len() {
-        let at = next_surprise(matrix, r, wide, offset);
-        let s = surprise_word(matrix[at], wide, offset);
-        ored = ored | s;
-        count += u64::count_ones(s) as u64;
-        r = at + 1;
+        count += u64::count_ones(surprise_word(matrix[r], cut)) as u64;
+        r += 1;
     }
-    Surprises {
-        ored: ored,
-        count: count,
-    }
+    count
 }
 
-// Refusal 5, or what the split says.
-fn judge_room(lg: u8, matrix: &[u64], room: usize) -> SplitAnswer
-    requires { ⌜ (4 ≤ lg) × (lg ≤ 26) × (length (now matrix) ≡ 2 ^ lg) × (reserved lg (now matrix) ≡ false) ⌝ }
-    ensures { λ r. ⌜ toldSplit r ≡ roomJudged lg (now (matrix .entry)) room ⌝ }
+// Refusal 5. The surprises are no more than the coupons and the cells below the offset, so that they are counted only where there is less room.
+fn lacks_room(matrix: &[u64], shape: Shape, ones: u64, room: usize) -> bool
+    requires { ⌜ (length (now matrix) ≤ 67108864) × (shape .offset ≤ 61) × (ones ≡ coupons (now matrix)) ⌝ }
+    ensures { λ r. ⌜ r ≡ ltb room (length (surprisePairs (shape .wide) (shape .offset) (now (matrix .entry)))) ⌝ }
 {
-    let coupons = count_ones_in(matrix) as u32;
-    match shape_of(lg, coupons) {
-        Plan::Refused(why) => SplitAnswer::Refused(why),
-        Plan::Take(shape) => {
-            let found = survey(matrix, shape.wide, shape.offset);
-            if (room as u64) < found.count {
-                return SplitAnswer::Refused(Refusal::NoRoom);
-            }
-            let flavor = shape.flavor;
-            SplitAnswer::Parted(Summary {
-                coupons: coupons,
-                flavor: flavor,
-                offset: shape.offset as u8,
-                column: u64::trailing_zeros(found.ored) as u8,
-                pairs: found.count as u32,
-            })
-        }
+    if ones + shape.offset * (matrix.len() as u64) <= (room as u64) {
+        return false;
     }
-}
-
-// Split: 1, 2, 10, 5, or what the split says.
-pub fn judge_split(lg: u8, matrix: &[u64], bytes: usize, room: usize) -> SplitAnswer
-    ensures { λ r. ⌜ toldSplit r ≡ splitJudged lg (now (matrix .entry)) bytes room ⌝ }
-{
-    match rows(lg) {
-        RowsAnswer::Refused(why) => SplitAnswer::Refused(why),
-        RowsAnswer::Rows(k) => {
-            if (matrix.len() as u64) != k {
-                return SplitAnswer::Refused(Refusal::WrongLength);
-            }
-            if (bytes as u64) != k {
-                return SplitAnswer::Refused(Refusal::WrongLength);
-            }
-            if has_reserved(lg, matrix) {
-                return SplitAnswer::Refused(Refusal::Reserved { place: 67108863 });
-            }
-            judge_room(lg, matrix, room)
-        }
-    }
+    (room as u64) < survey(matrix, cut_at(shape.wide, shape.offset))
 }
 
 // The window byte of each row.
@@ -182,6 +158,16 @@ fn write_windows(matrix: &[u64], offset: u64, window: &mut [u8])
     while r < matrix.len() {
         window[r] = window_of(matrix[r], offset);
         r += 1;
+    }
+}
+
+// Empty and Sparse leave the window unwritten.
+fn write_windows_if_any(matrix: &[u64], shape: Shape, window: &mut [u8])
+    requires { ⌜ (length (now window) ≡ length (now matrix)) × (shape .offset ≤ 61) ⌝ }
+    ensures { λ _. ⌜ now (window .exit) ≡ choose (shape .wide) (windows (shape .offset) (now (matrix .entry))) (now (window .entry)) ⌝ }
+{
+    if shape.wide {
+        write_windows(matrix, shape.offset, window);
     }
 }
 
@@ -201,31 +187,110 @@ fn list_row(w: u64, row: u64, out: &mut [u32], n: usize) -> usize
     i
 }
 
-// The list of the surprises; what stands after them stays.
-fn write_pairs(matrix: &[u64], wide: bool, offset: u64, out: &mut [u32])
-    requires { ⌜ (length (now matrix) ≤ 67108864) × (offset < 64) × (length (surprisePairs wide offset (now matrix)) ≤ length (now out)) ⌝ }
-    ensures { λ _. ⌜ now (out .exit) ≡ surprisePairs wide offset (now (matrix .entry)) ++ drop (length (surprisePairs wide offset (now (matrix .entry)))) (now (out .entry)) ⌝ }
+// The surprises of eight rows are listed after those before them: row by row, and only the rows that have any.
+fn list_block(matrix: &[u64], r: usize, cut: Cut, out: &mut [u32], before: Surprises) -> Surprises
+    requires { ⌜ CutAt cut × (length (now matrix) ≤ 67108864) × (r + 8 ≤ length (now matrix)) × (before .count + length (pairsFrom (cut .wide) (cut .offset) (now matrix) r 8) ≤ length (now out)) ⌝ }
+    ensures { λ s. ⌜ Added (pairsFrom (cut .wide) (cut .offset) (now (matrix .entry)) r 8) before (now (out .entry)) s (now (out .exit)) ⌝ }
 {
-    let mut n = 0;
-    let mut r = 0;
-    while r < matrix.len() {
-        let at = next_surprise(matrix, r, wide, offset);
-        let s = surprise_word(matrix[at], wide, offset);
-        n = list_row(s, at as u64, out, n);
-        r = at + 1;
+    let mut rest = hit_rows(matrix, r, cut);
+    let mut ored = before.ored;
+    let mut n = before.count;
+    while rest != 0 {
+        let j = u64::trailing_zeros(rest) as usize;
+        let s = surprise_word(matrix[r + j], cut);
+        ored = ored | s;
+        n = list_row(s, (r + j) as u64, out, n);
+        rest = rest ^ (1 << j);
+    }
+    Surprises {
+        ored: ored,
+        count: n,
     }
 }
 
-// Window and list are written; Empty and Sparse leave the window unwritten.
-pub fn write_parts(matrix: &[u64], flavor: Flavor, offset: u64, window: &mut [u8], out: &mut [u32])
-    requires { ⌜ (length (now matrix) ≤ 67108864) × (length (now window) ≡ length (now matrix)) × (offset < 64) × (length (surprisePairs (windowed flavor) offset (now matrix)) ≤ length (now out)) ⌝ }
-    ensures { λ _. ⌜ (now (window .exit) ≡ choose (windowed flavor) (windows offset (now (matrix .entry))) (now (window .entry)))
-        × (now (out .exit) ≡ surprisePairs (windowed flavor) offset (now (matrix .entry)) ++ drop (length (surprisePairs (windowed flavor) offset (now (matrix .entry)))) (now (out .entry))) ⌝ }
+// The surprises of the blocks found.
+fn list_blocks(
+    matrix: &[u64],
+    found: &[usize],
+    many: usize,
+    cut: Cut,
+    out: &mut [u32],
+    before: Surprises,
+) -> Surprises
+    requires { ⌜ CutAt cut × (length (now matrix) ≤ 67108864) × (many ≤ length (now found)) × ((i : ℕ) → i < many → getD (now found) i 0 + 8 ≤ length (now matrix))
+        × (before .count + length (blockPairs (cut .wide) (cut .offset) (now matrix) (now found) many) ≤ length (now out)) ⌝ }
+    ensures { λ s. ⌜ Added (blockPairs (cut .wide) (cut .offset) (now (matrix .entry)) (now (found .entry)) many) before (now (out .entry)) s (now (out .exit)) ⌝ }
 {
-    if has_window(flavor) {
-        write_windows(matrix, offset, window);
-        write_pairs(matrix, true, offset, out);
-        return;
+    let mut all = before;
+    let mut i: usize = 0;
+    while i < many {
+        all = list_block(matrix, found[i], cut, out, all);
+        i += 1;
     }
-    write_pairs(matrix, false, offset, out);
+    all
+}
+
+// Where the next 64 blocks end.
+fn blocks_end(from: usize, end: usize) -> usize
+    requires { ⌜ (from < end) × (end ≤ 67108864) × (from % 8 ≡ 0) × (end % 8 ≡ 0) ⌝ }
+    ensures { λ r. ⌜ (from < r) × (r ≤ end) × (r ≤ from + 512) × (r % 8 ≡ 0) ⌝ }
+{
+    if end < from + 512 {
+        return end;
+    }
+    from + 512
+}
+
+// The list of the surprises; what stands after them stays.
+fn write_pairs(matrix: &[u64], cut: Cut, out: &mut [u32]) -> Surprises
+    requires { ⌜ CutAt cut × (length (now matrix) ≤ 67108864) × (length (now matrix) % 8 ≡ 0) × (length (surprisePairs (cut .wide) (cut .offset) (now matrix)) ≤ length (now out)) ⌝ }
+    ensures { λ s. ⌜ SurpriseSum (cut .wide) (cut .offset) (now (matrix .entry)) s
+        × (now (out .exit) ≡ surprisePairs (cut .wide) (cut .offset) (now (matrix .entry)) ++ drop (length (surprisePairs (cut .wide) (cut .offset) (now (matrix .entry)))) (now (out .entry))) ⌝ }
+{
+    let mut found = [0usize; 64];
+    let mut all = Surprises { ored: 0, count: 0 };
+    let mut from: usize = 0;
+    while from < matrix.len() {
+        let to = blocks_end(from, matrix.len());
+        let many = find_blocks(matrix, from, to, cut, &mut found);
+        all = list_blocks(matrix, &found, many, cut, out, all);
+        from = to;
+    }
+    all
+}
+
+// Window and list are written.
+fn write_parts(matrix: &[u64], shape: Shape, window: &mut [u8], out: &mut [u32]) -> Surprises
+    requires { ⌜ (length (now matrix) ≤ 67108864) × (length (now matrix) % 8 ≡ 0) × (length (now window) ≡ length (now matrix)) × (shape .offset ≤ 61) × (length (surprisePairs (shape .wide) (shape .offset) (now matrix)) ≤ length (now out)) ⌝ }
+    ensures { λ s. ⌜ SurpriseSum (shape .wide) (shape .offset) (now (matrix .entry)) s
+        × (now (window .exit) ≡ choose (shape .wide) (windows (shape .offset) (now (matrix .entry))) (now (window .entry)))
+        × (now (out .exit) ≡ surprisePairs (shape .wide) (shape .offset) (now (matrix .entry)) ++ drop (length (surprisePairs (shape .wide) (shape .offset) (now (matrix .entry)))) (now (out .entry))) ⌝ }
+{
+    write_windows_if_any(matrix, shape, window);
+    write_pairs(matrix, cut_at(shape.wide, shape.offset), out)
+}
+
+// A matrix that 1, 2 and 10 let pass: refusal 5, or window and list are written.
+pub fn split_rows(lg: u8, matrix: &[u64], window: &mut [u8], pairs: &mut [u32]) -> SplitAnswer
+    requires { ⌜ (4 ≤ lg) × (lg ≤ 26) × (length (now matrix) ≡ 2 ^ lg) × (length (now window) ≡ 2 ^ lg) × (reserved lg (now matrix) ≡ false) ⌝ }
+    ensures { λ r. ⌜ SplitLeft lg (now (matrix .entry)) (now (window .entry)) (now (pairs .entry)) (toldSplit r) (now (window .exit)) (now (pairs .exit)) ⌝ }
+{
+    let ones = count_ones_in(matrix);
+    match shape_of(lg, ones as u32) {
+        Plan::Refused(why) => SplitAnswer::Refused(why),
+        Plan::Take(shape) => {
+            if lacks_room(matrix, shape, ones, pairs.len()) {
+                return SplitAnswer::Refused(Refusal::NoRoom);
+            }
+            let found = write_parts(matrix, shape, window, pairs);
+            let flavor = shape.flavor;
+            SplitAnswer::Parted(Summary {
+                coupons: ones as u32,
+                flavor: flavor,
+                offset: shape.offset as u8,
+                column: u64::trailing_zeros(found.ored) as u8,
+                pairs: found.count as u32,
+            })
+        }
+    }
 }

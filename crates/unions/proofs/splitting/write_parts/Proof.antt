@@ -1,36 +1,29 @@
 -- `unions::splitting::write_parts` meets its contract. Assumes nothing.
-use mathlib.Core.Path.{_≡_, sym, ap, _∙_, subst}
-use mathlib.Core.Bool.{Bool, true, false}
+use mathlib.Core.Path.{_≡_, ap₂, subst}
+use mathlib.Core.Bool.{Bool}
 use mathlib.Core.List.{_++_}
-use Prim.Native.Nat.{_≤_}
+use Prim.Native.Nat.{ℕ}
+use native.Mathlib.Omega.{arith}
 use denote.Ref.{now}
 use lib.ListN.{length, drop}
-use Rattle.laws.specs.Choose.{choose}
-use Rattle.matrices.specs.Parts.{windowed, surprisePairs}
-use Rattle.matrices.specs.Shapes.{windows}
+use Rattle.matrices.specs.Parts.{surprisePairs}
+use Rattle.unions.specs.Steps.{SurpriseSum}
 use borrow.Author.Needs.{needs}
 use Rattle.unions.proofs.splitting.write_parts.Statement.{statement}
 use Rattle.unions.proofs.splitting.write_parts.Tie as tie
 
-has-window-requires : tie.Need-has-window-requires
-has-window-requires c κs = search needs
+write-windows-if-any-requires : tie.Need-write-windows-if-any-requires
+write-windows-if-any-requires c κs = search needs
 
-write-windows-requires : tie.Need-write-windows-requires
-write-windows-requires c κs = search needs
-
--- the flavor has a window, or none
-wide : (c : tie.Then1) → windowed (c .before .before .before .before .before .args .flavor) ≡ true
-wide c = sym (c .before .has-window .ensures) ∙ c .if1 .taken
-
-narrow : (c : tie.Else1) → windowed (c .before .before .before .before .before .args .flavor) ≡ false
-narrow c = sym (c .before .has-window .ensures) ∙ c .if1 .left
+cut-at-requires : tie.Need-cut-at-requires
+cut-at-requires c κs = search needs
 
 write-pairs-requires : tie.Need-write-pairs-requires
 write-pairs-requires c κs =
-    let t = c .before .before .before .before .before in
-    let s = t .before .before .before .before .before in
+    let cut = c .before .cut-at .ensures in
+    let s = c .before .before .before .before .before .before .before .before .before in
     let a = s .args in
-    (s .pre .0, s .pre .2, subst (λ (b : Bool). length (surprisePairs b (a .offset) (now (a .matrix))) ≤ length (now (a .out))) (wide t) (s .pre .3))
+    (cut .2, s .pre .0, s .pre .1, omega (arith, ap₂ (λ (b : Bool) (o : ℕ). length (surprisePairs b o (now (a .matrix)))) (cut .0) (cut .1), s .pre .4))
 
 same-length : tie.Need-same-length
 same-length c = search needs
@@ -40,44 +33,22 @@ same-length-2 c = search needs
 
 returns : tie.Need-returns
 returns c =
-    let t = c .before .before .before .before .before .before .before .before in
-    let a = t .before .before .before .before .before .args in
+    let w = c .before .before in
+    let cut = w .before .before .cut-at in
+    let window = c .before .before .before .before .before .before .before in
+    let a = c .before .before .before .before .before .before .before .before .before .before .before .before .args in
     let m = now (a .matrix) in
-    let o = a .offset in (
-      c .before .before .before .before .before .before .write-windows .ensures ∙ sym (ap (λ (b : Bool). choose b (windows o m) (now (a .window))) (wide t)),
-      c .before .before .write-pairs .ensures ∙ sym (ap (λ (b : Bool). surprisePairs b o m ++ drop (length (surprisePairs b o m)) (now (a .out))) (wide t)),
-    )
-
-write-pairs-requires-2 : tie.Need-write-pairs-requires-2
-write-pairs-requires-2 c κs =
-    let e = c .before in
-    let s = e .before .before .before .before .before in
-    let a = s .args in
-    (s .pre .0, s .pre .2, subst (λ (b : Bool). length (surprisePairs b (a .offset) (now (a .matrix))) ≤ length (now (a .out))) (narrow e) (s .pre .3))
-
-same-length-3 : tie.Need-same-length-3
-same-length-3 c = search needs
-
-returns-2 : tie.Need-returns-2
-returns-2 c =
-    let e = c .before .before .before .before in
-    let a = e .before .before .before .before .before .args in
-    let m = now (a .matrix) in
-    let o = a .offset in (
-      sym (ap (λ (b : Bool). choose b (windows o m) (now (a .window))) (narrow e)),
-      c .before .before .write-pairs2 .ensures ∙ sym (ap (λ (b : Bool). surprisePairs b o m ++ drop (length (surprisePairs b o m)) (now (a .out))) (narrow e)),
-    )
+    let both = subst (λ (o : ℕ). SurpriseSum (a .shape .wide) o m (w .write-pairs .result) × (w .write-pairs .last .1 .1 .0 ≡ surprisePairs (a .shape .wide) o m ++ drop (length (surprisePairs (a .shape .wide) o m)) (now (a .out)))) (cut .ensures .1)
+    (subst (λ (b : Bool). SurpriseSum b (cut .result .offset) m (w .write-pairs .result) × (w .write-pairs .last .1 .1 .0 ≡ surprisePairs b (cut .result .offset) m ++ drop (length (surprisePairs b (cut .result .offset) m)) (now (a .out)))) (cut .ensures .0) (w .write-pairs .ensures)) in
+    (both .0, window .write-windows-if-any .ensures, both .1)
 
 pub write-parts-spec : {M : Type 1} → statement M
 write-parts-spec =
     tie.close
     (tie.spec
-    has-window-requires
-    write-windows-requires
+    write-windows-if-any-requires
+    cut-at-requires
     write-pairs-requires
     same-length
     same-length-2
-    returns
-    write-pairs-requires-2
-    same-length-3
-    returns-2)
+    returns)
