@@ -15,7 +15,6 @@ pub mod FirstColumn
 pub mod Members
 pub mod Inverse
 pub mod Bridges
-pub mod SplitCount
 pub mod Judged
 pub mod CouponsHeld
 pub mod SplitMost

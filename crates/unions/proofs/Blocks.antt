@@ -9,7 +9,7 @@ use native.Mathlib.Numerals.{add-one}
 use native.Mathlib.Omega.{arith}
 use borrow.Author.Tests.{eq-eqb, ne-eqb, eqb-true}
 use lib.Bits.{bitOr, bitXor, xor-lt}
-use lib.Count.{trailingZeros}
+use lib.Count.{ones, trailingZeros}
 use lib.Dec.{eqb}
 use lib.ListN.{length, getD, set, length-append}
 use lib.Pow.{pow-lt}
@@ -23,7 +23,9 @@ use Rattle.laws.proofs.Words.{has-wordOf, wordOf-lt}
 use Rattle.matrices.specs.Listing.{listFrom}
 use Rattle.matrices.specs.Parts.{surpriseWord, surprisePairs}
 use Rattle.matrices.specs.Shapes.{rowPairs}
+use Rattle.matrices.proofs.Bridges.{length-from, row-length}
 use Rattle.matrices.proofs.FirstColumn.{surprise-lt}
+use Rattle.matrices.proofs.Fits.{count-le}
 use Rattle.matrices.proofs.Listed.{list-same, list-none, list-split}
 use Rattle.matrices.proofs.SplitTurn.{to-all}
 use Rattle.unions.specs.Steps.{QuietIf, Found, Added, hitRows, pairsFrom, blockPairs}
@@ -74,11 +76,30 @@ module _ (wide : Bool) (o : ℕ) (m : List ℕ) where
       sym (to-all wide o m) ∙ ap (pairsFrom wide o m 0) e ∙ from-more 0 to (length m - to) in
       omega (arith, ap length s, length-append (pairsFrom wide o m 0 to) (pairsFrom wide o m (0 + to) (length m - to)))
 
+  -- a row more: as many as its surprise word has columns
+  pub from-next : (r n : ℕ) → getD m (r + n) 0 < 2 ^ 64 → length (pairsFrom wide o m r (n + 1)) ≡ length (pairsFrom wide o m r n) + ones (surpriseWord wide o (getD m (r + n) 0))
+  from-next r n h =
+      let w = surpriseWord wide o (getD m (r + n) 0) in
+      let row : pairsFrom wide o m (r + n) 1 ≡ rowPairs (r + n) w = list-same (64 * (r + n)) 64 surprising (λ x. has w (x % 64))
+      (λ c l.
+      let q : (64 * (r + n) + c) / 64 ≡ r + n = omega arith in
+      ap (λ (i : ℕ). has (surpriseWord wide o (getD m i 0)) ((64 * (r + n) + c) % 64)) q) in
+      ap length (from-more r n 1 ∙ ap (λ (l : List ℕ). pairsFrom wide o m r n ++ l) row)
+      ∙ length-append (pairsFrom wide o m r n) (rowPairs (r + n) w)
+      ∙ ap (λ (x : ℕ). length (pairsFrom wide o m r n) + x) (row-length (r + n) w (surprise-lt wide o (getD m (r + n) 0) h))
+
+  -- no more than 64 for each row
+  pub from-few : (r n : ℕ) → length (pairsFrom wide o m r n) ≤ 64 * n
+  from-few r n = omega (arith, length-from (64 * r) (64 * n) surprising, count-le (64 * n) (λ i. surprising (64 * r + i)))
+
   -- rows without a surprise list nothing
   from-quiet : (r n : ℕ) → ((t : ℕ) → r ≤ t → t < r + n → surpriseWord wide o (getD m t 0) ≡ 0) → pairsFrom wide o m r n ≡ []
   from-quiet r n z =
       list-none (64 * r) (64 * n) surprising
       (λ c h. ap (λ (w : ℕ). has w ((64 * r + c) % 64)) (z ((64 * r + c) / 64) (omega arith) (omega arith)) ∙ has-zero ((64 * r + c) % 64))
+
+  pub from-none : (r : ℕ) → pairsFrom wide o m r 0 ≡ []
+  from-none r = from-quiet r 0 (λ t a b. absurd (omega arith))
 
   -- ---- the rows of a block that hold a surprise
 
@@ -243,6 +264,18 @@ module _ (wide : Bool) (o : ℕ) (m : List ℕ) where
         length-append (blockPairs wide o m found (n + d)) (pairsFrom wide o m (getD found (n + d) 0) 8),
       )
 
+  pub blocks-few : (found : List ℕ) (n : ℕ) → length (blockPairs wide o m found n) ≤ 512 * n
+  blocks-few found zero = omega (arith, ap length (blocks-none found))
+  blocks-few found (suc n) =
+      omega (
+        arith,
+        blocks-few found n,
+        ap (λ (k : ℕ). length (blockPairs wide o m found k)) (add-one n),
+        ap length (blocks-more found n),
+        length-append (blockPairs wide o m found n) (pairsFrom wide o m (getD found n 0) 8),
+        from-few wide o m (getD found n 0) 8,
+      )
+
   -- a block that is noted after the first n
   blocks-set : (found : List ℕ) (n v k : ℕ) → k ≤ n → blockPairs wide o m (set found n v) k ≡ blockPairs wide o m found k
   unfolding blockPairs
@@ -256,7 +289,7 @@ module _ (wide : Bool) (o : ℕ) (m : List ℕ) where
       record {
         few = omega arith;
         within = λ i h. absurd (omega arith);
-        all = ap (pairsFrom wide o m from) z ∙ from-quiet wide o m from 0 (λ t a b. absurd (omega arith)) ∙ sym (blocks-none found);
+        all = ap (pairsFrom wide o m from) z ∙ from-none wide o m from ∙ sym (blocks-none found);
       }
 
   module _ (from r : ℕ) (found : List ℕ) (n : ℕ) (f : Found wide o m from r found n) (l : from ≤ r) where

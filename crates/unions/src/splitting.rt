@@ -117,30 +117,65 @@ fn find_blocks(matrix: &[u64], from: usize, to: usize, cut: Cut, found: &mut [us
     n
 }
 
-pub struct Surprises {
-    // all surprise words ORed
-    pub ored: u64,
-    // how many surprises there are
-    pub count: usize,
+// Where the next 64 blocks end.
+fn blocks_end(from: usize, end: usize) -> usize
+    requires { ⌜ (from < end) × (end ≤ 67108864) × (from % 8 ≡ 0) × (end % 8 ≡ 0) ⌝ }
+    ensures { λ r. ⌜ (from < r) × (r ≤ end) × (r ≤ from + 512) × (r % 8 ≡ 0) ⌝ }
+{
+    if end < from + 512 {
+        return end;
+    }
+    from + 512
+}
+
+// The surprises of eight rows, counted.
+fn count_block(matrix: &[u64], r: usize, cut: Cut) -> u64
+    requires { ⌜ CutAt cut × (r + 8 ≤ length (now matrix)) ⌝ }
+    ensures { λ n. ⌜ n ≡ length (pairsFrom (cut .wide) (cut .offset) (now (matrix .entry)) r 8) ⌝ }
+{
+    let mut count: u64 = 0;
+    let mut j: usize = 0;
+    while j < 8 {
+        count += u64::count_ones(surprise_word(matrix[r + j], cut)) as u64;
+        j += 1;
+    }
+    count
+}
+
+// The surprises of the blocks found, counted.
+fn count_blocks(matrix: &[u64], found: &[usize], many: usize, cut: Cut) -> u64
+    requires { ⌜ CutAt cut × (many ≤ 64) × (many ≤ length (now found)) × ((i : ℕ) → i < many → getD (now found) i 0 + 8 ≤ length (now matrix)) ⌝ }
+    ensures { λ n. ⌜ n ≡ length (blockPairs (cut .wide) (cut .offset) (now (matrix .entry)) (now (found .entry)) many) ⌝ }
+{
+    let mut count: u64 = 0;
+    let mut i: usize = 0;
+    while i < many {
+        count += count_block(matrix, found[i], cut);
+        i += 1;
+    }
+    count
 }
 
 // The surprises of a matrix, counted before any is written.
 fn survey(matrix: &[u64], cut: Cut) -> u64
-    requires { ⌜ CutAt cut × (length (now matrix) ≤ 67108864) ⌝ }
-    ensures { λ r. ⌜ r ≡ length (surprisePairs (cut .wide) (cut .offset) (now (matrix .entry))) ⌝ }
+    requires { ⌜ CutAt cut × (length (now matrix) ≤ 67108864) × (length (now matrix) % 8 ≡ 0) ⌝ }
+    ensures { λ n. ⌜ n ≡ length (surprisePairs (cut .wide) (cut .offset) (now (matrix .entry))) ⌝ }
 {
+    let mut found = [0usize; 64];
     let mut count: u64 = 0;
-    let mut r = 0;
-    while r < matrix.len() {
-        count += u64::count_ones(surprise_word(matrix[r], cut)) as u64;
-        r += 1;
+    let mut from: usize = 0;
+    while from < matrix.len() {
+        let to = blocks_end(from, matrix.len());
+        let many = find_blocks(matrix, from, to, cut, &mut found);
+        count += count_blocks(matrix, &found, many, cut);
+        from = to;
     }
     count
 }
 
 // Refusal 5. The surprises are no more than the coupons and the cells below the offset, so that they are counted only where there is less room.
 fn lacks_room(matrix: &[u64], shape: Shape, ones: u64, room: usize) -> bool
-    requires { ⌜ (length (now matrix) ≤ 67108864) × (shape .offset ≤ 61) × (ones ≡ coupons (now matrix)) ⌝ }
+    requires { ⌜ (length (now matrix) ≤ 67108864) × (length (now matrix) % 8 ≡ 0) × (shape .offset ≤ 61) × (ones ≡ coupons (now matrix)) ⌝ }
     ensures { λ r. ⌜ r ≡ ltb room (length (surprisePairs (shape .wide) (shape .offset) (now (matrix .entry)))) ⌝ }
 {
     if ones + shape.offset * (matrix.len() as u64) <= (room as u64) {
@@ -187,6 +222,13 @@ fn list_row(w: u64, row: u64, out: &mut [u32], n: usize) -> usize
     i
 }
 
+pub struct Surprises {
+    // all surprise words ORed
+    pub ored: u64,
+    // how many surprises there are
+    pub count: usize,
+}
+
 // The surprises of eight rows are listed after those before them: row by row, and only the rows that have any.
 fn list_block(matrix: &[u64], r: usize, cut: Cut, out: &mut [u32], before: Surprises) -> Surprises
     requires { ⌜ CutAt cut × (length (now matrix) ≤ 67108864) × (r + 8 ≤ length (now matrix)) × (before .count + length (pairsFrom (cut .wide) (cut .offset) (now matrix) r 8) ≤ length (now out)) ⌝ }
@@ -228,17 +270,6 @@ fn list_blocks(
         i += 1;
     }
     all
-}
-
-// Where the next 64 blocks end.
-fn blocks_end(from: usize, end: usize) -> usize
-    requires { ⌜ (from < end) × (end ≤ 67108864) × (from % 8 ≡ 0) × (end % 8 ≡ 0) ⌝ }
-    ensures { λ r. ⌜ (from < r) × (r ≤ end) × (r ≤ from + 512) × (r % 8 ≡ 0) ⌝ }
-{
-    if end < from + 512 {
-        return end;
-    }
-    from + 512
 }
 
 // The list of the surprises; what stands after them stays.

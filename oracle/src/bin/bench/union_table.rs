@@ -59,7 +59,10 @@ pub fn measure(ratios: &mut Ratios) {
             print_row("expand", &tried.name, tried.time_expand(), None);
             // The Rust's union has no matrix while its coupons are Sparse, and copies its sketch.
             if flavor != "Sparse" {
-                print_row("split", &tried.name, tried.time_split(), None);
+                let (most, least) = tried.split_rooms();
+                print_row("split", &tried.name, tried.time_split(most), None);
+                let just_enough = tried.time_split(least);
+                print_row("split, room just enough", &tried.name, just_enough, None);
             }
         }
     }
@@ -147,11 +150,19 @@ impl Tried {
         runs(self.sketch.lg).medians(ours, rust)
     }
 
+    /// Room for the coupons and the cells below the offset, which no split needs more than, and for just the pairs.
+    fn split_rooms(&self) -> (usize, usize) {
+        let (lg, coupons) = (self.sketch.lg, self.sketch.coupons);
+        let offset = CpcSketch::inside().determine_correct_offset(lg, coupons);
+        let cells = usize::from(offset) << lg;
+        (coupons as usize + cells, self.sketch.pairs.len())
+    }
+
     /// The Rust's union keeps its matrix, and is handed over and back.
-    fn time_split(&self) -> (f64, f64) {
+    fn time_split(&self, room: usize) -> (f64, f64) {
         let (lg, inside) = (self.sketch.lg, CpcSketch::inside());
         let mut window = vec![0; 1 << lg];
-        let mut pairs = vec![0; self.sketch.coupons as usize];
+        let mut pairs = vec![0; room];
         let ours = || {
             let split = ours::split(lg, black_box(&self.matrix), &mut window, &mut pairs);
             assert!(split.number == 0);

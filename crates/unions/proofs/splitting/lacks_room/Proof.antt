@@ -17,26 +17,26 @@ use Rattle.unions.proofs.splitting.lacks_room.Tie as tie
 
 -- the cells below the offset
 cells : (s : tie.Start) → s .args .shape .offset * length (now (s .args .matrix)) ≤ 61 * length (now (s .args .matrix))
-cells s = mul-le-mul-right (length (now (s .args .matrix))) (s .pre .1)
+cells s = mul-le-mul-right (length (now (s .args .matrix))) (s .pre .2)
 
 mul-if1 : tie.Need-mul-if1
 mul-if1 c = let s = c .before .before in omega (arith, cells s, s .pre .0)
 
 add-if1 : tie.Need-add-if1
-add-if1 c = let s = c .before .before in omega (arith, cells s, s .pre .0, s .pre .2, coupons-most (now (s .args .matrix)))
+add-if1 c = let s = c .before .before in omega (arith, cells s, s .pre .0, s .pre .3, coupons-most (now (s .args .matrix)))
 
 returns : tie.Need-returns
 returns c =
     let s = c .before .before .before in
     let a = s .args in
-    let most = surprises-most (a .shape .wide) (a .shape .offset) (now (a .matrix)) (omega (arith, s .pre .1)) in
-    sym (le-ltb (a .room) (length (surprisePairs (a .shape .wide) (a .shape .offset) (now (a .matrix)))) (omega (arith, s .pre .2, c .if1 .taken)))
+    let most = surprises-most (a .shape .wide) (a .shape .offset) (now (a .matrix)) (omega (arith, s .pre .2)) in
+    sym (le-ltb (a .room) (length (surprisePairs (a .shape .wide) (a .shape .offset) (now (a .matrix)))) (omega (arith, s .pre .3, c .if1 .taken)))
 
 cut-at-requires : tie.Need-cut-at-requires
 cut-at-requires c κs = search needs
 
 survey-requires : tie.Need-survey-requires
-survey-requires c κs = let s = c .before .before .before .before in (c .cut-at .ensures .2, s .pre .0)
+survey-requires c κs = let s = c .before .before .before .before in (c .cut-at .ensures .2, s .pre .0, s .pre .1)
 
 returns-2 : tie.Need-returns-2
 returns-2 c =

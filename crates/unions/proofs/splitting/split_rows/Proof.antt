@@ -1,5 +1,5 @@
 -- `unions::splitting::split_rows` meets its contract. Assumes nothing.
-use mathlib.Core.Path.{sym, ap, _∙_, subst}
+use mathlib.Core.Path.{_≡_, sym, ap, _∙_, subst}
 use Prim.Native.Nat.{ℕ, _*_, _^_, _%_, _≤_}
 use native.Mathlib.Omega.{arith}
 use borrow.Author.Tests.{ltb-false}
@@ -20,6 +20,9 @@ use Rattle.unions.proofs.splitting.split_rows.Tie as tie
 
 short : (s : tie.Start) → length (now (s .args .matrix)) ≤ 67108864
 short s = let p : 2 ^ s .args .lg ≤ 2 ^ 26 = pow-mono (s .pre .1) in omega (arith, s .pre .2)
+
+whole : (s : tie.Start) → length (now (s .args .matrix)) % 8 ≡ 0
+whole s = ap (λ (n : ℕ). n % 8) (s .pre .2) ∙ eights (s .args .lg) (s .pre .0)
 
 count-ones-in-requires : tie.Need-count-ones-in-requires
 count-ones-in-requires c κs = short (c .before .before .before)
@@ -51,7 +54,7 @@ shaped c =
     subst (PlannedBy (shapeJudged lg n) lg n) (c .shape .given .1) (c .before .before .shape-of .ensures) .1
 
 lacks-room-requires : tie.Need-lacks-room-requires
-lacks-room-requires c κs = let s = c .before in (short (begun s), shaped s .small, counted s .count-ones-in .ensures)
+lacks-room-requires c κs = let s = c .before in (short (begun s), whole (begun s), shaped s .small, counted s .count-ones-in .ensures)
 
 returns : tie.Need-returns
 returns c =
@@ -68,7 +71,7 @@ write-parts-requires c κs =
     let s = e .before .before .before in
     let st = begun s in (
       short st,
-      ap (λ (n : ℕ). n % 8) (st .pre .2) ∙ eights (st .args .lg) (st .pre .0),
+      whole st,
       st .pre .3 ∙ sym (st .pre .2),
       shaped s .small,
       ltb-false _ _ (sym (r .ensures) ∙ e .if1 .left),

@@ -1,75 +1,103 @@
 -- `unions::splitting::survey` meets its contract. Assumes nothing.
-use mathlib.Core.Path.{_≡_, sym, ap, ap₂, _∙_, subst}
-use Prim.Native.Nat.{ℕ, _+_, _*_, _-_, _^_, _≤_, _<_}
+use mathlib.Core.Path.{_≡_, refl, sym, ap, ap₂, _∙_}
+use Prim.Native.Nat.{_+_, _-_, _%_, _≤_}
 use native.Mathlib.Omega.{arith}
 use denote.Ref.{now}
-use lib.Count.{ones, ones-le}
-use lib.ListN.{length, getD}
-use Rattle.matrices.proofs.FirstColumn.{surprise-lt}
-use Rattle.matrices.proofs.SplitCount.{length-none, length-more}
-use Rattle.matrices.proofs.SplitTurn.{listedTo, to-all}
-use borrow.Author.Needs.{needs}
+use lib.ListN.{length, length-append}
+use Rattle.matrices.proofs.SplitTurn.{listedTo, to-none, to-all}
+use Rattle.unions.specs.Steps.{blockPairs}
+use Rattle.unions.proofs.Blocks.{from-few, listed-found}
 use Rattle.unions.proofs.splitting.survey.Statement.{statement}
 use Rattle.unions.proofs.splitting.survey.Tie as tie
 
 abbrev Inv-loop : tie.InvT-loop
-Inv-loop matrix cut count₀ r₀ count r = (r ≤ length matrix) × (count ≡ length (listedTo (cut .wide) (cut .offset) matrix r)) × (count ≤ 64 * r)
+Inv-loop matrix cut found₀ count₀ from₀ found count from =
+    (from ≤ length matrix) × (from % 8 ≡ 0) × (length found ≡ 64) × (count ≡ length (listedTo (cut .wide) (cut .offset) matrix from))
 
 abbrev μ-loop : tie.MeasureT-loop
-μ-loop matrix cut count₀ r₀ count r = length matrix - r
+μ-loop matrix cut found₀ count₀ from₀ found count from = length matrix - from
 
 loop-holds : tie.Need-loop-holds Inv-loop μ-loop
 loop-holds c =
     let a = c .before .args in
-    (omega arith, sym (length-none (a .cut .wide) (a .cut .offset) (now (a .matrix))), omega arith)
+    (omega arith, refl, refl, sym (ap length (to-none (a .cut .wide) (a .cut .offset) (now (a .matrix)))))
 
-mul-surprise-word : tie.Need-mul-surprise-word Inv-loop μ-loop
-mul-surprise-word c = search needs
+abbrev begun : tie.In-loop Inv-loop μ-loop → tie.Start Inv-loop μ-loop
+begun c = c .before .before .before
 
-shared-slice-read-surprise-word : tie.Need-shared-slice-read-surprise-word Inv-loop μ-loop
-shared-slice-read-surprise-word c = search needs
+blocks-end-requires : tie.Need-blocks-end-requires Inv-loop μ-loop
+blocks-end-requires c κs =
+    let s = begun c in
+    (omega (arith, c .loop-test), s .pre .1, c .before .loop .inv .1, s .pre .2)
 
-surprise-word-requires : tie.Need-surprise-word-requires Inv-loop μ-loop
-surprise-word-requires c κs = c .before .before .before .before .pre .0
+slice-aggregate-find-blocks : tie.Need-slice-aggregate-find-blocks Inv-loop μ-loop
+slice-aggregate-find-blocks c = sym (c .before .before .before .loop .inv .2)
 
--- a surprise word is a word
-fits : (c : tie.After-surprise-word Inv-loop μ-loop) → c .surprise-word .result < 2 ^ 64
-fits c =
-    let a = c .before .before .before .before .before .args in
-    let r = c .before .before .before .loop .r in
-    subst (λ (x : ℕ). x < 2 ^ 64) (sym (c .surprise-word .ensures))
-    (surprise-lt (a .cut .wide) (a .cut .offset) (getD (now (a .matrix)) r 0) (c .before .shared-slice-known2 .given r .fits))
+find-blocks-requires : tie.Need-find-blocks-requires Inv-loop μ-loop
+find-blocks-requires c κs =
+    let e = c .before .blocks-end .ensures in
+    let i = c .before .before in
+    (begun i .pre .0, omega (arith, e .0), e .2, e .1, i .before .loop .inv .1, e .3, i .before .loop .inv .2)
 
-cast-count : tie.Need-cast-count Inv-loop μ-loop
-cast-count c = omega (arith, ones-le 64 (c .surprise-word .result) (fits c))
+slice-aggregate-count-blocks : tie.Need-slice-aggregate-count-blocks Inv-loop μ-loop
+slice-aggregate-count-blocks c =
+    let f = c .before .before in
+    sym (f .find-blocks .kept .1 .1 .1 .1 .0 ∙ f .before .before .before .before .loop .inv .2)
+
+count-blocks-requires : tie.Need-count-blocks-requires Inv-loop μ-loop
+count-blocks-requires c κs =
+    let f = c .before .before in
+    let i = f .before .before .before in
+    let few = f .find-blocks .ensures .few in
+    let e = f .before .before .blocks-end .ensures in
+    (begun i .pre .0, omega (arith, few, e .2), omega (arith, few, e .2, f .find-blocks .kept .1 .1 .1 .1 .0, i .before .loop .inv .2), f .find-blocks .ensures .within)
+
+abbrev turned : tie.After-count-blocks Inv-loop μ-loop → tie.After-find-blocks Inv-loop μ-loop
+turned c = c .before .before .before
+
+-- the surprises of the rows up to the end of the blocks
+more : (c : tie.After-count-blocks Inv-loop μ-loop)
+    → turned c .before .before .before .before .loop .count + c .count-blocks .result
+    ≡ length (listedTo (begun (turned c .before .before .before) .args .cut .wide) (begun (turned c .before .before .before) .args .cut .offset) (now (begun (turned c .before .before .before) .args .matrix)) (turned c .before .before .blocks-end .result))
+more c =
+    let f = turned c in
+    let i = f .before .before .before in
+    let l = i .before .loop in
+    let e = f .before .before .blocks-end in
+    let a = begun i .args in
+    let wide = a .cut .wide in
+    let o = a .cut .offset in
+    let m = now (a .matrix) in
+    let found = f .find-blocks .last .1 .1 .1 .1 .0 in
+    let n = f .find-blocks .result in
+    ap₂ _+_ (l .inv .3) (c .count-blocks .ensures)
+    ∙ sym (ap length (listed-found wide o m (l .from) (e .result) found n (omega (arith, e .ensures .0)) (f .find-blocks .ensures)) ∙ length-append (listedTo wide o m (l .from)) (blockPairs wide o m found n))
 
 add-count : tie.Need-add-count Inv-loop μ-loop
 add-count c =
-    omega (arith, ones-le 64 (c .surprise-word .result) (fits c), c .before .before .before .loop .inv .2, c .before .before .before .loop .inv .0, c .before .before .before .before .before .pre .1)
-
-add-r : tie.Need-add-r Inv-loop μ-loop
-add-r c = search needs
+    let f = turned c in
+    let s = begun (f .before .before .before) in
+    let e = f .before .before .blocks-end in
+    omega (arith, more c, from-few (s .args .cut .wide) (s .args .cut .offset) (now (s .args .matrix)) 0 (e .result), e .ensures .1, s .pre .1)
 
 loop-less : tie.Need-loop-less Inv-loop μ-loop
-loop-less c = search needs
+loop-less c = let e = turned c .before .before .blocks-end .ensures in omega (arith, e .0, e .1)
 
 loop-again : tie.Need-loop-again Inv-loop μ-loop
 loop-again c =
-    let l = c .before .before .before .loop in
-    let a = c .before .before .before .before .before .args in
-    let s = c .surprise-word in (
-      omega arith,
-      ap₂ _+_ (l .inv .1) (ap ones (s .ensures)) ∙ sym (length-more (a .cut .wide) (a .cut .offset) (now (a .matrix)) (l .r) (c .before .shared-slice-known2 .given (l .r) .fits)),
-      omega (arith, ones-le 64 (s .result) (fits c), l .inv .2),
-    )
+    let f = turned c in
+    let e = f .before .before .blocks-end .ensures in
+    (e .1, e .3, f .find-blocks .kept .1 .1 .1 .1 .0 ∙ f .before .before .before .before .loop .inv .2, more c)
 
 returns : tie.Need-returns Inv-loop μ-loop
 returns c =
     let l = c .before .loop in
     let a = c .before .before .before .args in
+    let wide = a .cut .wide in
+    let o = a .cut .offset in
     let m = now (a .matrix) in
-    let e : l .r ≡ length m = omega arith in
-    l .inv .1 ∙ ap (λ (x : ℕ). length (listedTo (a .cut .wide) (a .cut .offset) m x)) e ∙ ap length (to-all (a .cut .wide) (a .cut .offset) m)
+    let e : l .from ≡ length m = omega (arith, l .inv .0, c .loop-test) in
+    l .inv .3 ∙ ap length (ap (listedTo wide o m) e ∙ to-all wide o m)
 
 pub survey-spec : {M : Type 1} → statement M
 survey-spec =
@@ -78,12 +106,12 @@ survey-spec =
     Inv-loop
     μ-loop
     loop-holds
-    mul-surprise-word
-    shared-slice-read-surprise-word
-    surprise-word-requires
-    cast-count
+    blocks-end-requires
+    slice-aggregate-find-blocks
+    find-blocks-requires
+    slice-aggregate-count-blocks
+    count-blocks-requires
     add-count
-    add-r
     loop-less
     loop-again
     returns)
