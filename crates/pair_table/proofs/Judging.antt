@@ -1,9 +1,7 @@
 -- The judgements, one after the other, and what holds once they pass. Assumes nothing.
 use mathlib.Core.Path.{_≡_, refl}
-use mathlib.Core.Bool.{Bool, true, false, _||_}
 use mathlib.Core.List.{List, []}
 use Prim.Native.Nat.{ℕ, _^_, _<_}
-use native.Mathlib.Omega.{arith}
 use lib.ListN.{length}
 use Rattle.refusals.specs.Outcome.{Outcome, accepted, refused, stopped, andThen}
 use Rattle.refusals.specs.Told.{told}
@@ -27,11 +25,6 @@ pub then-assoc : (a b c : Outcome) → andThen a (andThen b c) ≡ andThen (andT
 then-assoc (accepted values) b c = refl
 then-assoc (refused number place) b c = refl
 then-assoc (stopped number place bit) b c = refl
-
--- neither of two tests
-pub neither : (a b : Bool) → (a || b) ≡ false → (a ≡ false) × (b ≡ false)
-neither true b e = let z : _≡_ {A = ℕ} 0 1 = cc in absurd (omega arith)
-neither false b e = (refl, e)
 
 -- a table and an item that pass
 pub call-passed : (s e : List ℕ) (lg v c x : ℕ) → andThen (tableJudged s e lg v c) (itemJudged v x 0) ≡ accepted []

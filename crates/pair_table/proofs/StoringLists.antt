@@ -9,6 +9,7 @@ use lib.ListN.{length, getD, drop, replicate, length-replicate}
 use lib.Dec.{eqb, leb, ltb}
 use borrow.Author.Tests.{ltb-false, leb-true, leb-false}
 use Rattle.laws.specs.Choose.{choose}
+use Rattle.laws.proofs.Truths.{neither}
 use Rattle.refusals.specs.Outcome.{Outcome, accepted, refused, andThen}
 use Rattle.refusals.specs.Told.{told}
 use Rattle.refusals.specs.declared.Refusal.{Refusal}
@@ -26,7 +27,7 @@ use Rattle.pair_table.specs.Told.{toldTable}
 use Rattle.pair_table.specs.Steps.{lentJudged, Buildable, storeOn, buildOn, MadeBy, StoredBy, BuiltBy}
 use Rattle.pair_table.specs.declared.TableAnswer.{TableAnswer}
 use Rattle.pair_table.specs.declared.TableAnswer.the-variants as table
-use Rattle.pair_table.proofs.Judging.{ends-both, neither}
+use Rattle.pair_table.proofs.Judging.{ends-both}
 
 -- ---- the items, one after the other
 

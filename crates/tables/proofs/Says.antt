@@ -1,6 +1,6 @@
 -- What the calls on a lawful table say, case by case. Assumes nothing.
 use mathlib.Core.Path.{_≡_, refl, sym, _∙_}
-use mathlib.Core.Bool.{Bool, true, false, not, _||_, true≢false}
+use mathlib.Core.Bool.{Bool, true, false, not, _||_}
 use mathlib.Core.Logic.{⊎-elim}
 use mathlib.Core.List.{List, [], _∷_}
 use Prim.Native.Nat.{ℕ, _+_, _-_, _^_, _≤_, _<_}
@@ -9,6 +9,7 @@ use lib.ListN.{length, getD}
 use lib.Dec.{eqb, leb, ltb}
 use borrow.Author.Tests.{eq-eqb, eqb-true, ltb-false, leb-false, not-false}
 use Rattle.laws.specs.Choose.{choose}
+use Rattle.laws.proofs.Truths.{neither}
 use Rattle.refusals.specs.Outcome.{Outcome, accepted, refused, andThen}
 use Rattle.tables.specs.Slots.{empty, holds, sized, lawful}
 use Rattle.tables.specs.Changes.{fits, halvedLg, buildLg}
@@ -161,7 +162,7 @@ build-says s e v list {values} z =
     let h = first-accepted (twiceJudged list (length list) 0) last z₅ .1 in
     record {
       equal = eqb-true (length s) (length e) (not-false (eqb (length s) (length e)) (past (unequal s e) 2 bits z .0));
-      bits-most = ltb-false 32 v (neither (ltb v 3) (ltb 32 v) (past (ltb v 3 || ltb 32 v) 15 few z₁ .0));
+      bits-most = ltb-false 32 v (neither (ltb v 3) (ltb 32 v) (past (ltb v 3 || ltb 32 v) 15 few z₁ .0) .1);
       fine = items-fine v 0 list (first-accepted (itemsJudged v 0 list) growth z₃ .1);
       most = g .0;
       below = g .1;
@@ -169,10 +170,6 @@ build-says s e v list {values} z =
       once = twice-none list (length list) 0 (none-twice list (length list) 0 h);
       says = z ∙ sym z₆;
     }
-  where
-    neither : (a b : Bool) → (a || b) ≡ false → b ≡ false
-    neither true b e = absurd (true≢false e)
-    neither false b e = e
 
 -- a new table that is accepted
 pub record NewSays (s e : List ℕ) (lg v : ℕ) : Type 0 where
