@@ -4,22 +4,11 @@ use mathlib.Core.List.{List, []}
 use Prim.Native.Nat.{ℕ, _^_, _<_}
 use lib.ListN.{length}
 use Rattle.refusals.specs.Outcome.{Outcome, accepted, refused, stopped, andThen}
-use Rattle.refusals.specs.Told.{told}
-use Rattle.refusals.specs.declared.Refusal.{Refusal}
-use Rattle.refusals.proofs.Refusing.{Refuses, by-place, by-bit, refuses}
 use Rattle.tables.specs.Slots.{empty}
 use Rattle.tables.specs.Shapes.{Lawful}
 use Rattle.tables.specs.Calls.{tableJudged, itemJudged}
 use Rattle.tables.proofs.Items.{first-accepted, then-accepted, fine-item}
 use Rattle.tables.proofs.Says.{judged-is}
-
-stops-by : (first more : Outcome) → Refuses first → andThen first more ≡ first
-stops-by (refused number place) more by-place = refl
-stops-by (stopped number place bit) more by-bit = refl
-
--- a refusal ends both judgements
-pub ends-both : (why : Refusal) (more : Outcome) → andThen (told why) more ≡ told why
-ends-both why more = stops-by (told why) more (refuses why)
 
 pub then-assoc : (a b c : Outcome) → andThen a (andThen b c) ≡ andThen (andThen a b) c
 then-assoc (accepted values) b c = refl

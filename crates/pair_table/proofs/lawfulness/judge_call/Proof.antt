@@ -5,10 +5,10 @@ use Prim.Native.Nat.{_-_}
 use denote.Ref.{now}
 use borrow.Author.Needs.{needs}
 use Rattle.refusals.specs.Outcome.{Outcome, accepted, andThen}
+use Rattle.refusals.proofs.Refusing.{stays}
 use Rattle.tables.specs.Calls.{tableJudged, itemJudged}
 use Rattle.tables.proofs.Says.{judged-is}
 use Rattle.pair_table.specs.Told.{toldVerdict}
-use Rattle.pair_table.proofs.Judging.{ends-both}
 use Rattle.pair_table.proofs.lawfulness.judge_call.Statement.{statement}
 use Rattle.pair_table.proofs.lawfulness.judge_call.Tie as tie
 
@@ -33,7 +33,7 @@ returns : tie.Need-returns
 returns c =
     let k = c .before in
     let a = c .before .before .before .before .before .before .args in
-    sym (ap (λ (o : Outcome). andThen o (itemJudged (a .v) (a .item) 0)) (sym (sym (ap toldVerdict (k .why .given .1)) ∙ k .before .before .judge-table .ensures)) ∙ ends-both (k .why .given .0 .0) (itemJudged (a .v) (a .item) 0))
+    sym (ap (λ (o : Outcome). andThen o (itemJudged (a .v) (a .item) 0)) (sym (sym (ap toldVerdict (k .why .given .1)) ∙ k .before .before .judge-table .ensures)) ∙ stays (k .why .given .0 .0) (itemJudged (a .v) (a .item) 0))
 
 returns-2 : tie.Need-returns-2
 returns-2 c =
