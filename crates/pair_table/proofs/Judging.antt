@@ -4,10 +4,11 @@ use mathlib.Core.List.{List, []}
 use Prim.Native.Nat.{ℕ, _^_, _<_}
 use lib.ListN.{length}
 use Rattle.refusals.specs.Outcome.{Outcome, accepted, refused, stopped, andThen}
+use Rattle.refusals.proofs.Refusing.{both-accepted}
 use Rattle.tables.specs.Slots.{empty}
 use Rattle.tables.specs.Shapes.{Lawful}
 use Rattle.tables.specs.Calls.{tableJudged, itemJudged}
-use Rattle.tables.proofs.Items.{first-accepted, then-accepted, fine-item}
+use Rattle.tables.proofs.Items.{fine-item}
 use Rattle.tables.proofs.Says.{judged-is}
 
 pub then-assoc : (a b c : Outcome) → andThen a (andThen b c) ≡ andThen (andThen a b) c
@@ -19,5 +20,6 @@ then-assoc (stopped number place bit) b c = refl
 pub call-passed : (s e : List ℕ) (lg v c x : ℕ) → andThen (tableJudged s e lg v c) (itemJudged v x 0) ≡ accepted []
     → ((length s ≡ length e) × Lawful s lg v c) × ((x < 2 ^ v) × (x ≡ empty → ⊥))
 call-passed s e lg v c x h =
-    let f = fine-item v x 0 (then-accepted (tableJudged s e lg v c) (itemJudged v x 0) h) in
-    (judged-is s e lg v c (first-accepted (tableJudged s e lg v c) (itemJudged v x 0) h .1), (f .small, f .full))
+    let b = both-accepted (tableJudged s e lg v c) (itemJudged v x 0) [] h in
+    let f = fine-item v x 0 (b .1) in
+    (judged-is s e lg v c (b .0 .1), (f .small, f .full))

@@ -10,10 +10,10 @@ use Rattle.laws.specs.Choose.{choose}
 use Rattle.refusals.specs.Outcome.{Outcome, accepted, refused, andThen, ifAccepted}
 use Rattle.refusals.specs.Told.{told}
 use Rattle.refusals.specs.declared.Refusal.{Refusal}
-use Rattle.refusals.proofs.Refusing.{kept, stays}
+use Rattle.refusals.proofs.Refusing.{kept, stays, both-accepted}
 use Rattle.tables.specs.Shapes.{Lawful}
 use Rattle.tables.specs.Calls.{tableJudged, listOfItems}
-use Rattle.tables.proofs.Items.{never, first-accepted, then-accepted}
+use Rattle.tables.proofs.Items.{never}
 use Rattle.tables.proofs.Says.{judged-is}
 
 roomy : (b : Bool) (c : ℕ) → choose b (refused 5 0) (accepted (c ∷ [])) ≡ accepted (c ∷ []) → b ≡ false
@@ -25,8 +25,8 @@ pub listable : (s e : List ℕ) (lg v c : ℕ) (out : List ℕ) → listOfItems 
 unfolding listOfItems
 listable s e lg v c out h =
     let more : Outcome = choose (ltb (length out) c) (refused 5 0) (accepted (c ∷ [])) in
-    let first = first-accepted (tableJudged s e lg v c) more h in
-    (judged-is s e lg v c (first .1) .1, ltb-false (length out) c (roomy (ltb (length out) c) c (then-accepted (tableJudged s e lg v c) more h)))
+    let b = both-accepted (tableJudged s e lg v c) more (c ∷ []) h in
+    (judged-is s e lg v c (b .0 .1) .1, ltb-false (length out) c (roomy (ltb (length out) c) c (b .1)))
 
 module _ (whole more : Outcome) (after out : List ℕ) where
   pub list-refused : (why : Refusal) → whole ≡ andThen (told why) more → (told why ≡ whole) × (out ≡ ifAccepted whole after out)
