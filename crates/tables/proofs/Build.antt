@@ -16,7 +16,7 @@ use Rattle.refusals.specs.Outcome.{accepted, refused}
 use Rattle.tables.specs.Slots.{empty, spot, holds}
 use Rattle.tables.specs.Changes.{place, fill}
 use Rattle.tables.specs.Calls.{twiceJudged}
-use Rattle.tables.specs.Shapes.{Lawful, Member, Built}
+use Rattle.tables.specs.Shapes.{Lawful, Member, EachNew, Built}
 use Rattle.tables.proofs.Laws.{at-or-below}
 use Rattle.tables.proofs.Paths.{spot-lt, at-end, place-lawful, place-member, member-place}
 use Rattle.tables.proofs.Refilled.{fill-one, none-in}
@@ -57,9 +57,6 @@ module _ (o t : List ℕ) (lg v : ℕ) (base : Lawful t lg v 0) (fine : (k : ℕ
   abbrev Listed : ℕ → ℕ → Type 0
   Listed k y = (p : ℕ) × (p < k) × (getD o p 0 ≡ y)
 
-  abbrev Fresh : ℕ → Type 0
-  Fresh r = (k : ℕ) → k < r → Member (fill o k t lg v) (2 ^ lg) (getD o k 0) → ⊥
-
   -- s holds exactly the first k items
   record Upto (s : List ℕ) (k : ℕ) : Type 0 where
     lawful : Lawful s lg v k
@@ -93,7 +90,7 @@ module _ (o t : List ℕ) (lg v : ℕ) (base : Lawful t lg v 0) (fine : (k : ℕ
       e : getD s (spot s lg v (getD o k 0)) 0 ≡ empty
       e = at-end s lg v k (getD o k 0) (u .lawful) xs xe (λ z. new (spot s lg v (getD o k 0), qn, z, xe))
 
-  upto : (r : ℕ) → r ≤ length o → Fresh r → Upto (fill o r t lg v) r
+  upto : (r : ℕ) → r ≤ length o → EachNew o t lg v r → Upto (fill o r t lg v) r
   unfolding fill
   upto zero h f = none
   upto (suc r) h f =
@@ -101,12 +98,12 @@ module _ (o t : List ℕ) (lg v : ℕ) (base : Lawful t lg v 0) (fine : (k : ℕ
       (rw (fill-one o r t lg v (fine r h .full)) (one-more (fill o r t lg v) r h (upto r (omega arith) (λ k l. f k (omega arith))) (f r (omega arith))))
 
   -- a new item stands nowhere earlier in the list
-  pub fresh-holds : (k : ℕ) → k < length o → ((j : ℕ) → j < k → Member (fill o j t lg v) (2 ^ lg) (getD o j 0) → ⊥)
+  pub fresh-holds : (k : ℕ) → k < length o → EachNew o t lg v k
       → (Member (fill o k t lg v) (2 ^ lg) (getD o k 0) → ⊥) → holds o k (getD o k 0) ≡ false
   fresh-holds k h f new = never-true (holds o k (getD o k 0)) (λ e. new (upto k (omega arith) f .stored (getD o k 0) (fine k h .full) (holds-at o k (getD o k 0) e)))
 
   -- one that the table has stands earlier
-  pub stored-holds : (k : ℕ) → k < length o → ((j : ℕ) → j < k → Member (fill o j t lg v) (2 ^ lg) (getD o j 0) → ⊥)
+  pub stored-holds : (k : ℕ) → k < length o → EachNew o t lg v k
       → Member (fill o k t lg v) (2 ^ lg) (getD o k 0) → holds o k (getD o k 0) ≡ true
   stored-holds k h f m = let r = upto k (omega arith) f .listed (getD o k 0) m in at-holds o k (getD o k 0) (r .0) (r .1) (r .2)
 
@@ -143,18 +140,18 @@ module _ (o t : List ℕ) (lg v : ℕ) (base : Lawful t lg v 0) (fine : (k : ℕ
 
   -- A list in which none stands twice, built: a lawful table that holds exactly its items.
   module _ (once : twiceJudged o (length o) 0 ≡ accepted []) where
-    fresh-at : (r : ℕ) → r < length o → Fresh r → Member (fill o r t lg v) (2 ^ lg) (getD o r 0) → ⊥
+    fresh-at : (r : ℕ) → r < length o → EachNew o t lg v r → Member (fill o r t lg v) (2 ^ lg) (getD o r 0) → ⊥
     fresh-at r h f m =
         let w = upto r (omega arith) f .listed (getD o r 0) m in
         true≢false (sym (at-holds o r (getD o r 0) (w .0) (w .1) (w .2)) ∙ none-twice o (length o) 0 once r (omega arith) (omega arith))
 
-    fresh-more : (r : ℕ) → r < length o → Fresh r → Fresh (suc r)
+    fresh-more : (r : ℕ) → r < length o → EachNew o t lg v r → EachNew o t lg v (suc r)
     fresh-more r h f k l m = ⊎-elim
         (λ (e : k ≡ r). fresh-at r h f (subst (λ (j : ℕ). Member (fill o j t lg v) (2 ^ lg) (getD o j 0)) e m))
         (λ (j : k < r). f k j m)
         (at-or-below {p = k} {i = r} (omega arith))
 
-    all-fresh : (r : ℕ) → r ≤ length o → Fresh r
+    all-fresh : (r : ℕ) → r ≤ length o → EachNew o t lg v r
     all-fresh zero h = λ k l. absurd (omega arith)
     all-fresh (suc r) h = fresh-more r h (all-fresh r (omega arith))
 
