@@ -20,7 +20,7 @@ use Rattle.tables.specs.Changes.{blank, place, rebuilt, fits, inserted}
 use Rattle.tables.specs.Shapes.{Lawful, AllSmall, EmptyFrom}
 use Rattle.tables.specs.Calls.{unchanged, changed, ifChanged, growthJudged}
 use Rattle.tables.proofs.Bridges.{holds-spot}
-use Rattle.tables.proofs.Delete.{small-set}
+use Rattle.tables.proofs.Placing.{small-set}
 use Rattle.pair_table.specs.Told.{toldChange}
 use Rattle.pair_table.specs.Steps.{ChangedBy, growOn, insertOn, GrownBy, InsertedBy}
 use Rattle.pair_table.specs.declared.ChangeAnswer.{ChangeAnswer}

@@ -9,12 +9,13 @@ use native.Mathlib.Numerals.{add-one}
 use lib.ListN.{length, getD, replicate, length-replicate, getD-replicate}
 use lib.Seq.{getD-set-other}
 use Rattle.laws.specs.Choose.{choose}
+use Rattle.laws.proofs.Orders.{same-or-not}
 use Rattle.tables.specs.Slots.{empty, home, next, stops, probe, spot}
 use Rattle.tables.specs.Changes.{blank, place, fill, rebuilt}
 use Rattle.tables.specs.Shapes.{AllSmall, EmptyFrom}
 use Rattle.tables.proofs.Laws.{home-lt}
-use Rattle.tables.proofs.Paths.{same-or-not, next-lt}
-use Rattle.tables.proofs.Delete.{small-set}
+use Rattle.tables.proofs.Stepping.{next-lt}
+use Rattle.tables.proofs.Placing.{small-set}
 use Rattle.tables.proofs.Refilled.{fill-none, fill-one, length-fill}
 
 -- a search stays among the slots

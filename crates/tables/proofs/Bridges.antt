@@ -11,9 +11,10 @@ use borrow.Author.Tests.{eq-eqb, ne-eqb, eqb-true, lt-ltb, ltb-true, le-leb, leb
 use Rattle.laws.specs.Below.{everyBelow}
 use Rattle.laws.proofs.Below.{every-at, every-of, some-false}
 use Rattle.laws.proofs.Truths.{true-or-false, never-true, and-left, and-right, and-both, or-true, or-left, or-right}
+use Rattle.laws.proofs.Orders.{same-or-not, le-or-lt}
 use Rattle.tables.specs.Slots.{empty, spot, items, holds, sized, placedAt, emptyBeyond, lawful}
 use Rattle.tables.specs.Shapes.{Placed, AllPlaced, EmptyFrom, Lawful, Decides, Member}
-use Rattle.tables.proofs.Paths.{same-or-not, le-or-lt, only-there, spot-lt}
+use Rattle.tables.proofs.Placing.{only-there, spot-lt}
 
 -- two ways to say whether A holds are the same
 pub decided : {A : Type 0} (r b : Bool) → Decides A r → (b ≡ true → A) → (A → b ≡ true) → r ≡ b

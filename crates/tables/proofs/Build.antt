@@ -18,7 +18,7 @@ use Rattle.tables.specs.Changes.{place, fill}
 use Rattle.tables.specs.Calls.{twiceJudged}
 use Rattle.tables.specs.Shapes.{Lawful, Member, EachNew, Built}
 use Rattle.tables.proofs.Laws.{at-or-below}
-use Rattle.tables.proofs.Paths.{spot-lt, at-end, place-lawful, place-member, member-place}
+use Rattle.tables.proofs.Placing.{spot-lt, at-end, place-lawful, place-member, member-place}
 use Rattle.tables.proofs.Refilled.{fill-one, none-in}
 use Rattle.tables.proofs.Items.{Fine, never}
 use Rattle.tables.proofs.Bridges.{holds-at, at-holds}

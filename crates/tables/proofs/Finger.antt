@@ -9,12 +9,14 @@ use native.Mathlib.Nat.{le-trans, eq-or-lt-of-le, lt-of-lt-of-le as lt-le}
 use lib.ListN.{length, getD, set, length-set}
 use lib.Pow.{pow-pos}
 use lib.Seq.{getD-set-same, getD-set-other}
+use Rattle.laws.proofs.Orders.{same-or-not, le-or-lt}
 use Rattle.tables.specs.Slots.{empty, home, next, stops, probe, spot}
 use Rattle.tables.specs.Changes.{place, fill}
 use Rattle.tables.specs.Shapes.{steps, Lawful, RunUp, AllUnder, EachNew, Stored, Built}
 use Rattle.tables.proofs.Laws.{stops-empty, at-or-below}
-use Rattle.tables.proofs.Paths.{same-or-not, le-or-lt, steps-add, steps-lt, next-lt, probe-ends, Path-to, path, homed, at-end, stored-new, run-clear, run-none}
-use Rattle.tables.proofs.Delete.{steps-apart, step-on}
+use Rattle.tables.proofs.Stepping.{steps-add, steps-lt, next-lt, steps-apart, step-on}
+use Rattle.tables.proofs.Paths.{probe-ends, Path-to, run-clear, run-none}
+use Rattle.tables.proofs.Placing.{path, homed, at-end, stored-new}
 use Rattle.tables.proofs.Refilled.{fill-one, items-some}
 
 -- a search whose home is in a run of items below x may as well start at the run's end

@@ -7,11 +7,11 @@ use native.Mathlib.Omega.{arith}
 use lib.ListN.{length, getD, drop, drop-of-length-le}
 use lib.Seq.{drop-cons}
 use borrow.Author.Tests.{eq-eqb, ne-eqb, le-leb, lt-leb}
+use Rattle.laws.proofs.Orders.{le-or-lt}
 use Rattle.refusals.proofs.Refusing.{both-accepted}
 use Rattle.refusals.specs.Outcome.{accepted, refused, andThen}
 use Rattle.tables.specs.Slots.{empty}
 use Rattle.tables.specs.Calls.{itemJudged, itemsJudged}
-use Rattle.tables.proofs.Paths.{le-or-lt}
 
 -- an item that a table of v valid bits takes
 pub record Fine (v x : ℕ) : Type 0 where

@@ -13,12 +13,13 @@ use lib.Dec.{eqb}
 use lib.Arith.{le-of-le-suc-ne}
 use borrow.Author.Tests.{eq-eqb, ne-eqb}
 use Rattle.laws.specs.Choose.{choose}
+use Rattle.laws.proofs.Orders.{same-or-not}
 use Rattle.tables.specs.Slots.{empty, spot, held, total, items}
 use Rattle.tables.specs.Changes.{place, fill, rebuilt}
 use Rattle.tables.specs.Shapes.{Lawful, Sound, Member, AllSmall, Grown}
 use Rattle.tables.proofs.Laws.{held-empty, held-full, items-full}
-use Rattle.tables.proofs.Paths.{same-or-not, place-lawful, place-sound, place-member, member-place, only-there, at-end, spot-lt, length-place, total-set}
-use Rattle.tables.proofs.Delete.{one, one-same, one-other, tally-at, tally-some, once-placed}
+use Rattle.tables.proofs.Tally.{total-set, one, one-same, one-other, tally-at, tally-some, once-placed}
+use Rattle.tables.proofs.Placing.{place-lawful, place-sound, place-member, member-place, only-there, at-end, spot-lt, length-place}
 
 -- an empty slot adds nothing
 pub fill-none : (o : List ℕ) (k : ℕ) (t : List ℕ) (lg v : ℕ) → getD o k 0 ≡ empty → fill o (k + 1) t lg v ≡ fill o k t lg v

@@ -10,13 +10,13 @@ use lib.Dec.{eqb, leb, ltb}
 use borrow.Author.Tests.{eq-eqb, eqb-true, ltb-false, leb-false, not-false}
 use Rattle.laws.specs.Choose.{choose}
 use Rattle.laws.proofs.Truths.{neither}
+use Rattle.laws.proofs.Orders.{same-or-not, le-or-lt}
 use Rattle.refusals.specs.Outcome.{Outcome, accepted, refused, andThen}
 use Rattle.refusals.proofs.Refusing.{both-accepted}
 use Rattle.tables.specs.Slots.{empty, holds, sized, lawful}
 use Rattle.tables.specs.Changes.{fits, halvedLg, buildLg}
 use Rattle.tables.specs.Calls.{unequal, unchanged, changed, recordOf, tableJudged, itemJudged, growthJudged, itemsJudged, twiceJudged, insertOf, deleteOf, buildOf, newOf}
 use Rattle.tables.specs.Shapes.{Lawful, Member}
-use Rattle.tables.proofs.Paths.{same-or-not, le-or-lt}
 use Rattle.tables.proofs.Items.{Fine, never, item-fine, item-empty, item-large, items-fine}
 use Rattle.tables.proofs.Bridges.{Sized, sized-is, lawful-is, is-lawful, holds-member, not-holds}
 use Rattle.tables.proofs.Build.{twice-none, none-twice}

@@ -9,12 +9,15 @@ use native.Mathlib.Nat.{eq-or-lt-of-le, lt-of-lt-of-le as lt-le}
 use lib.ListN.{length, getD, set, length-set}
 use lib.Seq.{getD-set-same, getD-set-other, set-set, set-getD, set-comm}
 use borrow.Author.Tests.{eq-eqb, ne-eqb, le-leb, lt-leb}
+use Rattle.laws.proofs.Orders.{same-or-not, le-or-lt}
 use Rattle.tables.specs.Slots.{empty, home, next, stops, spot}
 use Rattle.tables.specs.Changes.{place, reseat, remove}
 use Rattle.tables.specs.Shapes.{steps, apart, shifted, Lawful, Removed}
 use Rattle.tables.proofs.Laws.{stops-empty, stops-not}
-use Rattle.tables.proofs.Paths.{same-or-not, le-or-lt, steps-add, steps-ahead, steps-behind, steps-lt, steps-inj, Path-to, spot-ends}
-use Rattle.tables.proofs.Delete.{steps-apart, step-on, step-on′, own-path, reseat-done, reseat-go, Mid, start, again, was, full-y, gone, home-y, room, bL, cluster, removed-some}
+use Rattle.tables.proofs.Stepping.{steps-add, steps-ahead, steps-behind, steps-lt, steps-inj, steps-apart, step-on, step-on′}
+use Rattle.tables.proofs.Paths.{Path-to, spot-ends, own-path}
+use Rattle.tables.proofs.Reseating.{reseat-done, reseat-go, Mid, start, again, was, full-y, gone, home-y, room, bL}
+use Rattle.tables.proofs.Delete.{cluster, removed-some}
 
 -- b is not before a
 pub apart-ahead : (n a b : ℕ) → a ≤ b → apart n a b ≡ b - a
