@@ -1,16 +1,15 @@
 -- The word that has given columns. Assumes nothing.
-use mathlib.Core.Path.{_≡_, refl, sym, ap, ap₂, _∙_, subst}
+use mathlib.Core.Path.{_≡_, refl, sym, ap, _∙_, subst}
 use mathlib.Core.Logic.{⊎-elim}
-use mathlib.Core.Bool.{Bool, true, false, _||_}
+use mathlib.Core.Bool.{Bool, true, false}
 use Prim.Native.Nat.{ℕ, zero, suc, _+_, _*_, _/_, _%_, _^_, _<_}
 use native.Mathlib.Nat.{pow-suc, not-suc-le-zero, eq-or-lt-of-le, le-of-suc-le-suc, add-comm}
 use native.Mathlib.Omega.{arith}
 use lib.Dec.{eqb}
 use lib.Pow.{pow-pos, high, low}
-use lib.Bits.{bitOr, or-lt}
 use Rattle.laws.specs.Below.{one}
 use Rattle.laws.specs.Columns.{has, wordOf}
-use Rattle.laws.proofs.Columns.{has-or, has-low, has-zero, word-ext}
+use Rattle.laws.proofs.Columns.{has-low, has-zero, word-ext}
 
 top-lt : (b : Bool) (r n : ℕ) → r < 2 ^ n → r + one b * 2 ^ n < 2 ^ suc n
 top-lt true r n h = omega (arith, pow-suc 2 n)
@@ -50,13 +49,5 @@ word-is n w p h e = word-ext n w (wordOf n p) h (wordOf-lt n p) (λ c l. e c l �
 pub wordOf-same : (n : ℕ) (p q : ℕ → Bool) → ((c : ℕ) → c < n → p c ≡ q c) → wordOf n p ≡ wordOf n q
 wordOf-same n p q e = word-is n (wordOf n p) q (wordOf-lt n p) (λ c l. has-wordOf n p c l ∙ e c l)
 
-pub wordOf-has : (n w : ℕ) → w < 2 ^ n → wordOf n (has w) ≡ w
-wordOf-has n w h = sym (word-is n w (has w) h (λ c l. refl))
-
 pub wordOf-none : (n : ℕ) → wordOf n (λ c. false) ≡ 0
 wordOf-none n = sym (word-is n 0 (λ c. false) (pow-pos n) (λ c l. has-zero c))
-
-pub or-wordOf : (n : ℕ) (p q : ℕ → Bool) → bitOr (wordOf n p) (wordOf n q) ≡ wordOf n (λ c. p c || q c)
-or-wordOf n p q =
-    word-is n _ (λ c. p c || q c) (or-lt n _ _ (wordOf-lt n p) (wordOf-lt n q))
-    (λ c l. has-or (wordOf n p) (wordOf n q) c ∙ ap₂ _||_ (has-wordOf n p c l) (has-wordOf n q c l))

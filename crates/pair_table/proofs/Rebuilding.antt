@@ -90,11 +90,6 @@ module _ (s : List ℕ) (lg to v : ℕ) (bits : to ≤ v) (room : 2 ^ to ≤ len
   unfolding rebuilt
   rebuilt-beyond p h l = fill-stays s (2 ^ lg) (blank s) to v bits small (2 ^ lg) (omega arith) p h ∙ blank-at p l
 
-  pub rebuilt-small : AllSmall (rebuilt s lg to v) (2 ^ to) v
-  unfolding rebuilt
-  rebuilt-small =
-      fill-small s (2 ^ lg) (blank s) to v bits small (rw (length-replicate (length s) empty) room) (2 ^ to) (λ p h full. absurd (full (blank-at p (omega arith)))) (2 ^ lg) (omega arith)
-
 -- the spare of a rebuild, once the items are stored in it
 pub refilled : (s e f : List ℕ) (m lg to v : ℕ) → f ≡ fill s m e to v → m ≡ 2 ^ lg → e ≡ blank e → length s ≡ length e → f ≡ rebuilt s lg to v
 unfolding rebuilt

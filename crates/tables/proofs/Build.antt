@@ -8,8 +8,6 @@ use native.Mathlib.Omega.{arith}
 use native.Mathlib.Nat.{eq-or-lt-of-le}
 use native.Mathlib.Numerals.{add-one}
 use lib.ListN.{length, getD}
-use lib.Dec.{eqb}
-use borrow.Author.Tests.{eq-eqb, ne-eqb}
 use Rattle.laws.specs.Choose.{choose}
 use Rattle.laws.proofs.Truths.{never-true}
 use Rattle.refusals.specs.Outcome.{accepted, refused}
@@ -119,24 +117,6 @@ module _ (o t : List ℕ) (lg v : ℕ) (base : Lawful t lg v 0) (fine : (k : ℕ
     -- r did, and not all: r is the first that stands earlier
     pub built-stopped : r < length o → twiceJudged o (length o) 0 ≡ refused 11 r
     built-stopped l = twice-first o (length o) 0 r (omega arith) (omega arith) earlier (stored-holds r l (b .fresh) (rw (← (b .now-is)) (b .stopped l)))
-
-    -- both in one equation
-    pub built-judged : twiceJudged o (length o) 0 ≡ choose (eqb r (length o)) (accepted []) (refused 11 r)
-    built-judged = ⊎-elim
-        (λ (e : r ≡ length o). rw (eq-eqb r (length o) e) (built-whole e))
-        (λ (l : r < length o). rw (ne-eqb r (length o) (λ e. omega arith)) (built-stopped l))
-        (eq-or-lt-of-le (b .within))
-
-    -- and the other way round
-    pub whole-built : twiceJudged o (length o) 0 ≡ accepted [] → r ≡ length o
-    whole-built e = ⊎-elim (λ z. z) (λ (l : r < length o). absurd (never (sym (built-stopped l) ∙ e))) (eq-or-lt-of-le (b .within))
-
-    -- the refusal says how many went in
-    pub stopped-built : (k : ℕ) → twiceJudged o (length o) 0 ≡ refused 11 k → r ≡ k
-    stopped-built k e = ⊎-elim
-        (λ (z : r ≡ length o). absurd (never (sym e ∙ built-whole z)))
-        (λ (l : r < length o). let z : refused 11 r ≡ refused 11 k = sym (built-stopped l) ∙ e in cc)
-        (eq-or-lt-of-le (b .within))
 
   -- A list in which none stands twice, built: a lawful table that holds exactly its items.
   module _ (once : twiceJudged o (length o) 0 ≡ accepted []) where

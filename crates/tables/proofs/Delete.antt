@@ -1,6 +1,6 @@
 -- Deleting an item: its slot is emptied, the items after it are taken and stored again, and the table stands for the set without it. Assumes nothing.
-use mathlib.Core.Path.{_≡_, refl, sym, ap, _∙_}
-use mathlib.Core.Bool.{true, false, true≢false, false≢true}
+use mathlib.Core.Path.{_≡_, sym, ap, _∙_}
+use mathlib.Core.Bool.{true, true≢false}
 use mathlib.Core.Logic.{⊎-elim}
 use mathlib.Core.List.{List}
 use Prim.Native.Nat.{ℕ, zero, suc, _-_, _^_, _<_}
@@ -15,7 +15,6 @@ use Rattle.tables.proofs.Laws.{stops-same, stops-empty}
 use Rattle.tables.proofs.Stepping.{meets}
 use Rattle.tables.proofs.Paths.{Ends, ends-within, stop-empty}
 use Rattle.tables.proofs.Tally.{some-empty}
-use Rattle.tables.proofs.Placing.{only-there}
 use Rattle.tables.proofs.Reseating.{back-lawful, kept, was-there, not-it}
 
 -- a search for the empty slot's number ends at an empty slot
@@ -69,20 +68,7 @@ gone-at o lg v c i l iN full =
       not-it = not-it o lg v c i (k .m) l iN (k .short) (k .some) (k .run) (k .gap);
     }
 
--- The two answers of a delete, from where the search ended and what stands there.
-pub removed-none : (s : List ℕ) (lg v c x q : ℕ) → Lawful s lg v c → x < 2 ^ v → (x ≡ empty → ⊥) → q ≡ spot s lg v x → (getD s q 0 ≡ x → ⊥) → Removed s s lg v c x false
-removed-none s lg v c x q l xs xe z d = record {
-  missing = λ r m. d (rw z (only-there s lg v c x l xs xe m));
-  kept = λ r. refl;
-  was = λ r. absurd (false≢true r);
-  now-is = λ r. absurd (false≢true r);
-  lawful = λ r. absurd (false≢true r);
-  gone = λ r. absurd (false≢true r);
-  others = λ r. absurd (false≢true r);
-  no-others = λ r. absurd (false≢true r);
-}
-
--- it was there, and went
+-- a delete of an item that is there, from where the search ended
 pub removed-some : (s : List ℕ) (lg v c x q : ℕ) → Lawful s lg v c → (x ≡ empty → ⊥) → q ≡ spot s lg v x → q < 2 ^ lg → getD s q 0 ≡ x
     → Removed s (reseat (set s q empty) lg v (2 ^ lg) (next (2 ^ lg) q)) lg v c x true
 unfolding remove

@@ -1,6 +1,6 @@
 -- Storing an item where its search ends: the table stays lawful, and holds it. Assumes nothing.
 use mathlib.Core.Path.{_≡_, refl, sym, _∙_}
-use mathlib.Core.Bool.{true, false, true≢false, false≢true}
+use mathlib.Core.Bool.{true, true≢false}
 use mathlib.Core.Logic.{_⊎_, inl, inr, ⊎-elim}
 use mathlib.Core.List.{List}
 use Prim.Native.Nat.{ℕ, _+_, _*_, _^_, _≤_, _<_}
@@ -149,19 +149,7 @@ module _ (s : List ℕ) (lg v c x : ℕ) (l : Lawful s lg v c) (xs : x < 2 ^ v) 
     member-place y (inl m) = (m .0, m .1, at-other (m .0) (λ z. m .3 (sym (m .2) ∙ rw z e)) ∙ m .2, m .3)
     member-place y (inr z) = (spot s lg v x, qn, at-q ∙ sym z, λ g. xe (sym z ∙ g))
 
--- The two answers of a store, from where the search ended and what stands there.
-pub stored-there : (s : List ℕ) (lg v c x q : ℕ) → q ≡ spot s lg v x → q < 2 ^ lg → (x ≡ empty → ⊥) → getD s q 0 ≡ x → Stored s s lg v c x false
-stored-there s lg v c x q z qn xe g = record {
-  was = λ r. (q, qn, g, xe);
-  kept = λ r. refl;
-  new = λ r. absurd (false≢true r);
-  now-is = λ r. absurd (false≢true r);
-  lawful = λ r. absurd (false≢true r);
-  holds = λ r. absurd (false≢true r);
-  held-on = λ r. absurd (false≢true r);
-}
-
--- it was not there, and is stored
+-- a store of an item that is not there, from where the search ended
 pub stored-new : (s : List ℕ) (lg v c x q : ℕ) → Lawful s lg v c → x < 2 ^ v → (x ≡ empty → ⊥) → 4 * (c + 1) ≤ 3 * 2 ^ lg
     → q ≡ spot s lg v x → q < 2 ^ lg → (getD s q 0 ≡ x → ⊥) → Stored s (set s q x) lg v c x true
 unfolding place

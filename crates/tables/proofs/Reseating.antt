@@ -33,12 +33,6 @@ reseat-go s lg v (suc left) p h d =
     let e : suc left - 1 ≡ left = omega arith in
     simp (ne-eqb (getD s p 0) empty d, e)
 
--- no turn is left
-pub reseat-out : (s : List ℕ) (lg v left p : ℕ) → left ≤ 0 → reseat s lg v left p ≡ s
-unfolding reseat
-reseat-out s lg v zero p h = refl
-reseat-out s lg v (suc left) p h = absurd (omega arith)
-
 -- A table o with the item at slot i to go. The slots from i on hold items up to the m-th after it, which is empty.
 module _ (o : List ℕ) (lg v c i m : ℕ) (l : Lawful o lg v c) (iN : i < 2 ^ lg) (mN : m < 2 ^ lg) (m1 : 0 < m)
     (run : (u : ℕ) → u < m → getD o (steps (2 ^ lg) i u) 0 ≡ empty → ⊥) (gap : getD o (steps (2 ^ lg) i m) 0 ≡ empty) where
