@@ -21,9 +21,9 @@ use Rattle.tables.proofs.Refilled.{fill-one, items-some}
 
 -- a search whose home is in a run of items below x may as well start at the run's end
 pub resume : (s : List ℕ) (lg v c x p len top d : ℕ) → Lawful s lg v c → x < 2 ^ v → (x ≡ empty → ⊥) → RunUp s (2 ^ lg) p len top
-    → steps (2 ^ lg) (home lg v x) d ≡ p → d ≤ len → top < x → spot s lg v x ≡ probe s (2 ^ lg) x (2 ^ lg) p
-resume s lg v c x p len top d l xs xe u there near above =
-    sym (probe-ends s n x n p (w .count - d) (omega (arith, w .short)) (record { clear = after; stop = rw (on-end) (w .ends .stop) }) ∙ on-end ∙ w .there)
+    → steps (2 ^ lg) (home lg v x) d ≡ p → d ≤ len → top < x → (q : ℕ) → q ≡ probe s (2 ^ lg) x (2 ^ lg) p → q ≡ spot s lg v x
+resume s lg v c x p len top d l xs xe u there near above q found =
+    found ∙ probe-ends s n x n p (w .count - d) (omega (arith, w .short)) (record { clear = after; stop = rw (on-end) (w .ends .stop) }) ∙ on-end ∙ w .there
   where
     n : ℕ
     n = 2 ^ lg
