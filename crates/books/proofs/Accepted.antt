@@ -1,5 +1,5 @@
 -- What an accepted book and table give to readers and writers. Assumes nothing.
-use mathlib.Core.Path.{_≡_, _∙_}
+use mathlib.Core.Path.{_≡_}
 use mathlib.Core.Bool.{Bool, true, not, _&&_}
 use mathlib.Core.List.{List, []}
 use Prim.Native.Nat.{ℕ, _/_, _%_, _≤_, _<_}
@@ -14,10 +14,10 @@ use Rattle.refusals.proofs.Refusing.{took}
 use Rattle.books.specs.Book.{firstMisshapen, oneSymbolEach, sized}
 use Rattle.books.specs.Table.{decoded, isTableOf, tableOf}
 use Rattle.books.specs.Calls.{judged, checkOf, checkTableOf}
-use Rattle.books.specs.Steps.{AllShaped, Hit, entryOf}
+use Rattle.books.specs.Steps.{AllShaped, Agreed}
 use Rattle.books.specs.Uses.{Matches}
 use Rattle.books.proofs.Shaping.{all-shaped}
-use Rattle.books.proofs.Agreement.{which-at, decoded-is, table-at}
+use Rattle.books.proofs.Agreement.{which-at, agrees, table-at}
 use Rattle.books.proofs.Verdicts.{judged-accepted, sized-short, fit, fit-both}
 
 -- a book that passes
@@ -33,8 +33,8 @@ pub matches : (book table : List ℕ) → length book ≤ 256 → AllShaped book
     → ((n : ℕ) → n < 4096 → getD table n 0 ≡ decoded book n) → Matches book table
 matches book table short s one size h = record { shaped = s; decodes = record { size = size; lengths = lengths; symbol = symbol }; matched = matched }
   where
-    matched : (x n : ℕ) → x < length book → n < 4096 → Hit book x n → getD table n 0 ≡ entryOf book x
-    matched x n l ln k = h n ln ∙ decoded-is book one x n l ln k
+    matched : Agreed book table
+    matched = agrees book one table h
 
     lengths : (n : ℕ) → n < 4096 → (1 ≤ getD table n 0 / 256) × (getD table n 0 / 256 ≤ 12)
     lengths n l =

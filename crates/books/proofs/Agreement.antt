@@ -45,6 +45,10 @@ module _ (book : List ℕ) (e : oneSymbolEach book ≡ true) where
   pub decoded-is : (x n : ℕ) → x < length book → n < 4096 → Hit book x n → decoded book n ≡ entryOf book x
   decoded-is x n l ln h = decoded-as 0 book x n (one-at n ln) l h ∙ ap (λ (y : ℕ). lengthIn (getD book x 0) * 256 + y) (zero-add x)
 
+  -- a table that holds what the book says agrees with it
+  pub agrees : (table : List ℕ) → ((n : ℕ) → n < 4096 → getD table n 0 ≡ decoded book n) → Agreed book table
+  agrees table h x n l ln hit = h n ln ∙ decoded-is x n l ln hit
+
   -- a table that agrees is the book's
   pub holds : (table : List ℕ) → Agreed book table → (n : ℕ) → n < 4096 → getD table n 0 ≡ decoded book n
   holds table agreed n l = let w = which-at n l in agreed (w .0) n (w .1) l (w .2) ∙ sym (decoded-is (w .0) n (w .1) l (w .2))

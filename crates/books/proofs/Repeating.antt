@@ -19,7 +19,7 @@ use Rattle.laws.proofs.Powers.{below-top}
 use Rattle.books.specs.Book.{lengthIn, codewordIn, oneSymbolEach}
 use Rattle.books.specs.Table.{isTableOf}
 use Rattle.books.specs.Steps.{Decides, AllShaped, taken, Hit, entryOf, Agreed, Stands, breaks, Repeats, AllRepeat}
-use Rattle.books.proofs.Agreement.{which-at, decoded-is, holds, passes, table-at, table-of}
+use Rattle.books.proofs.Agreement.{which-at, agrees, holds, passes, table-at, table-of}
 
 -- ---- the count of what is broken
 
@@ -139,9 +139,8 @@ module _ (book table : List ℕ) (short : length book ≤ 256) (s : AllShaped bo
     each = and-left (oneSymbolEach book) (isTableOf book table) e
 
     -- the entry of a symbol that has the number
-    entry-at : (x n : ℕ) → x < length book → n < 4096 → Hit book x n → getD table n 0 ≡ entryOf book x
-    entry-at x n l ln h =
-        table-at book table (and-right (oneSymbolEach book) (isTableOf book table) e) n ln ∙ decoded-is book each x n l ln h
+    entry-at : Agreed book table
+    entry-at = agrees book each table (table-at book table (and-right (oneSymbolEach book) (isTableOf book table) e))
 
     pub table-stands : Stands book table
     table-stands x l =

@@ -73,11 +73,6 @@ pub has-low : (w n c : ℕ) → c < n → has (w % 2 ^ n) c ≡ has w c
 has-low w n c h =
     subst (λ (k : ℕ). has (w % 2 ^ k) c ≡ has w c) (omega arith) (has-low-in w (n - suc c) c)
 
-pub has-mod : (w n c : ℕ) → has (w % 2 ^ n) c ≡ (ltb c n && has w c)
-has-mod w n c =
-    ⊎-elim (λ (h : c < n). rw (lt-ltb c n h) (has-low w n c h))
-    (λ (h : n ≤ c). rw (le-ltb c n h) (has-out n (w % 2 ^ n) c (mod-lt w (pow-pos n)) h)) (lt-or-le c n)
-
 pub has-shl-add : (w k c : ℕ) → has (w * 2 ^ k) (k + c) ≡ has w c
 has-shl-add w k c = sym (has-shr (w * 2 ^ k) k c) ∙ ap (λ (x : ℕ). has x c) (mul-div-cancel w (pow-pos k))
 

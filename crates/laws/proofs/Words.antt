@@ -1,5 +1,5 @@
 -- The word that has given columns. Assumes nothing.
-use mathlib.Core.Path.{_≡_, refl, sym, ap, ap₂, _∙_, subst}
+use mathlib.Core.Path.{_≡_, refl, sym, ap, _∙_, subst}
 use mathlib.Core.Logic.{⊎-elim}
 use mathlib.Core.Bool.{Bool, true, false, _||_}
 use Prim.Native.Nat.{ℕ, zero, suc, _+_, _*_, _/_, _%_, _^_, _≤_, _<_}
@@ -66,11 +66,6 @@ wordOf-has n w h = sym (word-is n w (has w) h (λ c l. refl))
 
 pub wordOf-none : (n : ℕ) → wordOf n (λ c. false) ≡ 0
 wordOf-none n = sym (word-is n 0 (λ c. false) (pow-pos n) (λ c l. has-zero c))
-
-pub or-wordOf : (n : ℕ) (p q : ℕ → Bool) → bitOr (wordOf n p) (wordOf n q) ≡ wordOf n (λ c. p c || q c)
-or-wordOf n p q =
-    word-is n _ (λ c. p c || q c) (or-lt n _ _ (wordOf-lt n p) (wordOf-lt n q))
-    (λ c l. has-or (wordOf n p) (wordOf n q) c ∙ ap₂ _||_ (has-wordOf n p c l) (has-wordOf n q c l))
 
 -- ---- the order in which words are ORed does not matter
 

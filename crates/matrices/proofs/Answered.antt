@@ -1,12 +1,13 @@
 -- What an accepted split, expansion, merge or new union found. Assumes nothing.
 use mathlib.Core.Path.{_≡_, refl, sym, ap, ap₂, _∙_}
-use mathlib.Core.Bool.{Bool, true, false, not, _||_, true≢false}
+use mathlib.Core.Bool.{Bool, true, false, not, _||_}
 use mathlib.Core.List.{List, [], _∷_}
 use Prim.Native.Nat.{ℕ, _*_, _^_, _≤_}
 use borrow.Author.Tests.{le-ltb, ltb-false, eq-eqb, eqb-true, not-false}
 use lib.Dec.{eqb, ltb}
 use lib.ListN.{length}
 use Rattle.laws.specs.Choose.{choose}
+use Rattle.laws.proofs.Truths.{neither}
 use Rattle.refusals.specs.Outcome.{Outcome, accepted, refused, andThen}
 use Rattle.refusals.proofs.Refusing.{took, both-accepted}
 use Rattle.numbers.specs.Calls.{outside}
@@ -27,10 +28,6 @@ pub record Split (lg : ℕ) (m window out : List ℕ) : Type 0 where
   pub clear : reserved lg m ≡ false
   pub room : length (listed lg m) ≤ length out
 
-or-none : (a b : Bool) → (a || b) ≡ false → (a ≡ false) × (b ≡ false)
-or-none true b e = absurd (true≢false e)
-or-none false b e = (refl, e)
-
 module _ (lg : ℕ) where
   -- a lent part that is not of wrong length
   right : (l : List ℕ) → wrongRows lg l ≡ false → length l ≡ 2 ^ lg
@@ -42,10 +39,10 @@ module _ (lg : ℕ) where
 
   -- an lg_k in 4..26
   pub inside-least : outside lg ≡ false → 4 ≤ lg
-  inside-least e = ltb-false lg 4 (or-none (ltb lg 4) (ltb 26 lg) e .0)
+  inside-least e = ltb-false lg 4 (neither (ltb lg 4) (ltb 26 lg) e .0)
 
   pub inside-most : outside lg ≡ false → lg ≤ 26
-  inside-most e = ltb-false 26 lg (or-none (ltb lg 4) (ltb 26 lg) e .1)
+  inside-most e = ltb-false 26 lg (neither (ltb lg 4) (ltb 26 lg) e .1)
 
 module _ (lg : ℕ) (m window out : List ℕ) where
   -- an accepted split passed every test
@@ -56,7 +53,7 @@ module _ (lg : ℕ) (m window out : List ℕ) where
       let b = took (wrongRows lg m || wrongRows lg window) _ 2 0 values (a .1) in
       let d = took (reserved lg m) _ 10 67108863 values (b .1) in
       let f = took (ltb (length out) (length (listed lg m))) _ 5 0 values (d .1) in
-      let g = or-none (wrongRows lg m) (wrongRows lg window) (b .0) in
+      let g = neither (wrongRows lg m) (wrongRows lg window) (b .0) in
       record { inside = a .0; rows = right lg m (g .0); bytes = right lg window (g .1); clear = d .0; room = ltb-false (length out) (length (listed lg m)) (f .0) }
 
   -- and where every test passes, this is its answer
@@ -85,7 +82,7 @@ module _ (lg c : ℕ) (window ps m : List ℕ) where
       let a = took (outside lg) _ 1 0 values e in
       let b = took (ltb (64 * 2 ^ lg) c) _ 17 0 values (a .1) in
       let d = took (wrongRows lg m || wrongWindow (2 ^ lg) c window) _ 2 0 values (b .1) in
-      let g = or-none (wrongRows lg m) (wrongWindow (2 ^ lg) c window) (d .0) in
+      let g = neither (wrongRows lg m) (wrongWindow (2 ^ lg) c window) (d .0) in
       record {
         inside = a .0;
         most = ltb-false (64 * 2 ^ lg) c (b .0);
@@ -132,8 +129,8 @@ merge-accepted lg present seed m from other c window ps values e =
     let f = took (not (lawfulUnion lg present m)) _ 15 0 values (d .1) in
     let g = both-accepted (sourceJudged from c window ps) _ values (f .1) in
     let h = took (not (eqb seed other)) _ 16 0 values (g .1) in
-    let s = or-none (outside from) (outside lg) (a .0) in
-    let t = or-none (wrongRows lg m) (wrongWindow (2 ^ from) c window) (d .0) in
+    let s = neither (outside from) (outside lg) (a .0) in
+    let t = neither (wrongRows lg m) (wrongWindow (2 ^ from) c window) (d .0) in
     record {
       inside = s .0;
       configured = s .1;

@@ -1,7 +1,6 @@
 -- From the definitions of the parts to what code computes. Assumes nothing.
 use mathlib.Core.Path.{_≡_, refl, sym, ap, ap₂, _∙_}
 use mathlib.Core.Bool.{Bool, true, false}
-use mathlib.Core.List.{List}
 use Prim.Native.Nat.{ℕ, zero, suc, _+_, _*_, _/_, _%_, _^_, _<_}
 use native.Mathlib.Nat.{zero-add, mod-lt}
 use native.Mathlib.Omega.{arith}
@@ -15,24 +14,13 @@ use Rattle.laws.proofs.Ones.{count-same, ones-count}
 use Rattle.laws.proofs.Sums.{sum-split}
 use Rattle.laws.proofs.Words.{word-is}
 use Rattle.matrices.specs.Listing.{only, listFrom}
-use Rattle.matrices.specs.Matrix.{at, coupons}
-use Rattle.matrices.specs.Parts.{windowAt, surprisePairs}
-use Rattle.matrices.specs.Shapes.{rowPairs, surprises}
+use Rattle.matrices.specs.Parts.{windowAt}
+use Rattle.matrices.specs.Shapes.{rowPairs}
 
 -- the window byte is (word >> o) mod 256
 pub window-shift : (o w : ℕ) → windowAt o w ≡ w / 2 ^ o % 256
 window-shift o w =
     sym (word-is 8 (w / 2 ^ o % 2 ^ 8) (λ i. has w (o + i)) (mod-lt (w / 2 ^ o) (pow-pos 8)) (λ i l. has-low (w / 2 ^ o) 8 i l ∙ has-shr w o i))
-
--- with a window, the list is that of the surprises
-pub pairs-surprises : (o : ℕ) (m : List ℕ) → surprisePairs true o m ≡ surprises o m
-unfolding surprisePairs surprises
-pairs-surprises o m = refl
-
--- without a window, it is the list of all pairs, whatever the offset
-pub pairs-all : (o : ℕ) (m : List ℕ) → surprisePairs false o m ≡ listFrom 0 (64 * length m) (λ x. at m (x / 64) (x % 64))
-unfolding surprisePairs
-pairs-all o m = refl
 
 -- a list is as long as the numbers that pass its test are many
 pub length-from : (a n : ℕ) (p : ℕ → Bool) → length (listFrom a n p) ≡ countBelow n (λ i. p (a + i))
@@ -69,8 +57,3 @@ count-rows (suc k) f =
     let q : (64 * k + c) / 64 ≡ k = omega arith in
     let s : (64 * k + c) % 64 ≡ c = omega arith in
     ap₂ f q s))
-
--- the list of all pairs is as long as the coupons are many
-pub pairs-count : (o : ℕ) (m : List ℕ) → length (surprisePairs false o m) ≡ coupons m
-unfolding coupons
-pairs-count o m = ap length (pairs-all o m) ∙ length-list (64 * length m) (λ x. at m (x / 64) (x % 64)) ∙ count-rows (length m) (at m)

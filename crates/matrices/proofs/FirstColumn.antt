@@ -6,7 +6,7 @@ use Prim.Native.Nat.{ℕ, zero, suc, _+_, _^_, _≤_, _<_}
 use native.Mathlib.Numerals.{add-one}
 use native.Mathlib.Omega.{arith}
 use lib.Bits.{bitOr, or-lt}
-use lib.Count.{trailingZeros, trailing-le}
+use lib.Count.{trailingZeros}
 use lib.ListN.{length, getD, take}
 use lib.Pow.{pow-pos}
 use lib.Seq.{take-suc, take-length}
@@ -62,8 +62,3 @@ module _ (wide : Bool) (o : ℕ) (m : List ℕ) where
   pub ored-end : trailingZeros 64 (oredTo wide o m (length m)) ≡ firstColumn wide o m
   unfolding firstColumn
   ored-end = ap (λ (l : List ℕ). trailingZeros 64 (ored (map (surpriseWord wide o) l))) (take-length m)
-
-  -- it is at most 64
-  pub first-column-le : firstColumn wide o m ≤ 64
-  unfolding firstColumn
-  first-column-le = trailing-le 64 _

@@ -6,7 +6,7 @@ use native.Mathlib.Nat.{zero-add}
 use native.Mathlib.Numerals.{add-one}
 use native.Mathlib.Omega.{arith}
 use lib.ListN.{length, getD, set, drop-of-length-le}
-use lib.Seq.{take-length, paste, paste-zero, paste-suc, length-paste}
+use lib.Seq.{take-length, paste, paste-zero, paste-suc}
 
 -- the first r elements are those of the new list, the others as they were
 abbrev pub rewritten : List ℕ → List ℕ → ℕ → List ℕ
@@ -30,7 +30,3 @@ module _ (old new : List ℕ) (l : length old ≡ length new) where
   rewritten-end =
       let z : length old ≤ 0 + length new = omega (arith, zero-add (length new)) in
       ap₂ (λ (x y : List ℕ). x ++ y) (take-length new) (drop-of-length-le old z) ∙ append-nil new
-
-  -- the list stays as long as it was
-  pub rewritten-length : (r : ℕ) → r ≤ length new → length (rewritten old new r) ≡ length old
-  rewritten-length r h = length-paste old 0 new r (omega (arith, zero-add r)) h

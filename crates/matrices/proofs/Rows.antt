@@ -1,9 +1,9 @@
 -- Laws of matrices. Assumes nothing.
 use mathlib.Core.Path.{_≡_, refl, sym, ap, ap₂, _∙_}
-use mathlib.Core.Logic.{_⊎_, inl, inr, ⊎-elim}
+use mathlib.Core.Logic.{_⊎_, inl, inr}
 use mathlib.Core.Bool.{Bool, not, _&&_, _||_}
 use mathlib.Core.List.{List, _∷_}
-use Prim.Native.Nat.{ℕ, zero, suc, _/_, _%_, _^_, _≤_, _<_, suc-le-suc}
+use Prim.Native.Nat.{ℕ, zero, suc, _^_, _≤_, _<_, suc-le-suc}
 use native.Mathlib.Nat.{not-suc-le-zero, le-of-suc-le-suc}
 use native.Mathlib.Omega.{arith}
 use borrow.Author.Tests.{eq-eqb, ne-eqb}
@@ -11,11 +11,10 @@ use lib.Dec.{eqb}
 use lib.ListN.{length, getD, set, length-set}
 use lib.Seq.{ext-getD, getD-set-same, getD-set-other}
 use Rattle.laws.specs.Columns.{has, wordOf}
-use Rattle.laws.proofs.Orders.{lt-or-le, same-or-not}
+use Rattle.laws.proofs.Orders.{lt-or-le}
 use Rattle.laws.proofs.Truths.{or-false}
 use Rattle.laws.proofs.Words.{has-wordOf, word-is, wordOf-same}
 use Rattle.matrices.specs.Matrix.{at, matrixOf}
-use Rattle.matrices.specs.Shapes.{withPair}
 
 -- k rows
 pub length-matrix : (k : ℕ) (f : ℕ → ℕ → Bool) → length (matrixOf k f) ≡ k
@@ -85,30 +84,3 @@ set-matrix k f i p h =
     go r b (inl l) y = other r b (omega arith)
     go r b (inr l) (inl g) = other r b (omega arith)
     go r b (inr l) (inr g) = same r b (omega arith)
-
--- a list of words is the matrix of what it holds; a row stored into it
-pub matrix-self : (m : List ℕ) → ((r : ℕ) → getD m r 0 < 2 ^ 64) → m ≡ matrixOf (length m) (at m)
-matrix-self m w = matrix-is m (length m) (at m) refl w (λ r c h l. refl)
-
--- a row more
-pub store-row : (m : List ℕ) → ((r : ℕ) → getD m r 0 < 2 ^ 64) → (i : ℕ) (p : ℕ → Bool) → i < length m
-    → set m i (wordOf 64 p) ≡ matrixOf (length m) (put (at m) i p)
-store-row m w i p h = ap (λ (x : List ℕ). set x i (wordOf 64 p)) (matrix-self m w) ∙ set-matrix (length m) (at m) i p h
-
--- a pair more
-pub store-pair : (m : List ℕ) → ((r : ℕ) → getD m r 0 < 2 ^ 64) → (p : ℕ) → p / 64 < length m
-    → set m (p / 64) (wordOf 64 (λ c. at m (p / 64) c || eqb c (p % 64))) ≡ matrixOf (length m) (withPair m p)
-store-pair m w p h =
-    store-row m w (p / 64) q h
-    ∙ matrix-same (length m) (put (at m) (p / 64) q) (withPair m p)
-    (λ r c l b.
-    ⊎-elim
-    (λ (e : r ≡ p / 64).
-    put-same (at m) (p / 64) q r c e
-    ∙ ap₂ _||_ (ap (λ (x : ℕ). at m x c) (sym e)) (sym (ap (λ (t : Bool). t && eqb c (p % 64)) (eq-eqb r (p / 64) e))))
-    (λ (n : r ≡ p / 64 → ⊥).
-    put-other (at m) (p / 64) q r c n
-    ∙ sym (ap (λ (t : Bool). at m r c || (t && eqb c (p % 64))) (ne-eqb r (p / 64) n) ∙ or-false (at m r c))) (same-or-not r (p / 64)))
-  where
-    q : ℕ → Bool
-    q c = at m (p / 64) c || eqb c (p % 64)

@@ -11,10 +11,6 @@ use Rattle.matrices.specs.Matrix.{at, inWindow}
 use Rattle.matrices.specs.Listing.{listFrom}
 use Rattle.matrices.specs.Parts.{windowAt, surprisesAt}
 
--- the pairs of m, and (r, c) of the pair number 64·r + c
-abbrev pub withPair : List ℕ → ℕ → ℕ → ℕ → Bool
-withPair m p r c = at m r c || (eqb r (p / 64) && eqb c (p % 64))
-
 -- m folded to k rows: (r, c) for r below k, if (t, c) is in m for some row t with t mod k = r
 abbrev pub folded : ℕ → List ℕ → ℕ → ℕ → Bool
 folded k m r c = ltb r k && anyBelow (length m) (λ t. eqb (t % k) r && at m t c)
@@ -54,10 +50,3 @@ windows o m = map (windowAt o) m
 -- the pair number x is a surprise of m
 abbrev pub surprising : ℕ → List ℕ → ℕ → Bool
 surprising o m x = has (surprisesAt o (getD m (x / 64) 0)) (x % 64)
-
--- the surprises of the first r rows, and of all
-abbrev pub surprisesTo : ℕ → List ℕ → ℕ → List ℕ
-surprisesTo o m r = listFrom 0 (64 * r) (surprising o m)
-
-unfoldable pub surprises : ℕ → List ℕ → List ℕ
-surprises o m = surprisesTo o m (length m)

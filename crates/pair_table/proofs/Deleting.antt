@@ -14,8 +14,9 @@ use Rattle.tables.specs.Changes.{blank, remove, rebuilt, halved, halvedLg, dele
 use Rattle.tables.specs.Shapes.{Lawful, AllSmall, EmptyFrom, apart, shifted}
 use Rattle.tables.specs.Calls.{changed}
 use Rattle.tables.proofs.Laws.{items-full}
-use Rattle.tables.proofs.Paths.{next-lt}
-use Rattle.tables.proofs.Delete.{small-set, removed-some}
+use Rattle.tables.proofs.Stepping.{next-lt}
+use Rattle.tables.proofs.Placing.{small-set}
+use Rattle.tables.proofs.Delete.{removed-some}
 use Rattle.tables.proofs.Refilled.{total-mono}
 use Rattle.tables.proofs.Bridges.{holds-spot}
 use Rattle.tables.proofs.Shift.{shifted-done, shifted-out, shifted-move, shifted-stay, remove-is}

@@ -14,18 +14,18 @@ use borrow.Author.Tests.{eq-eqb, ne-eqb}
 use Rattle.refusals.specs.Outcome.{Outcome, accepted, andThen}
 use Rattle.refusals.specs.Told.{told}
 use Rattle.refusals.specs.declared.Refusal.{Refusal}
+use Rattle.refusals.proofs.Refusing.{stays}
 use Rattle.tables.specs.Slots.{empty, spot, holds}
 use Rattle.tables.specs.Changes.{blank, place, rebuilt, fits, inserted}
 use Rattle.tables.specs.Shapes.{Lawful, AllSmall, EmptyFrom}
 use Rattle.tables.specs.Calls.{unchanged, changed, ifChanged, growthJudged}
 use Rattle.tables.proofs.Bridges.{holds-spot}
-use Rattle.tables.proofs.Delete.{small-set}
+use Rattle.tables.proofs.Placing.{small-set}
 use Rattle.pair_table.specs.Told.{toldChange}
 use Rattle.pair_table.specs.Steps.{ChangedBy, growOn, insertOn, GrownBy, InsertedBy}
 use Rattle.pair_table.specs.declared.ChangeAnswer.{ChangeAnswer}
 use Rattle.pair_table.specs.declared.ChangeAnswer.the-variants as change
-use Rattle.pair_table.proofs.Judging.{ends-both}
-use Rattle.pair_table.proofs.Called.{stays}
+use Rattle.pair_table.proofs.Called.{unchanged-if-refused}
 
 pub double : (lg : ℕ) → 2 ^ (lg + 1) ≡ 2 * 2 ^ lg
 double lg = ap (λ (k : ℕ). 2 ^ k) (add-one lg) ∙ pow-suc 2 lg ∙ omega arith
@@ -58,8 +58,8 @@ stayed outcome after s e is = record {
 pub refused-change : (outcome : Outcome) (after s e : List ℕ) (why : Refusal) → outcome ≡ told why → ChangedBy outcome after s e s e (change.Refused why)
 refused-change outcome after s e why is = record {
   says = sym is;
-  region = sym (ap (λ (o : Outcome). ifChanged o after s) is ∙ stays why after s);
-  spare = sym (ap (λ (o : Outcome). ifChanged o (blank e) e) is ∙ stays why (blank e) e);
+  region = sym (ap (λ (o : Outcome). ifChanged o after s) is ∙ unchanged-if-refused why after s);
+  spare = sym (ap (λ (o : Outcome). ifChanged o (blank e) e) is ∙ unchanged-if-refused why (blank e) e);
 }
 
 module _ (s e : List ℕ) (lg v c x at : ℕ) (l : Lawful s lg v c) (level : length s ≡ length e) (xs : x < 2 ^ v) (is : at ≡ spot s lg v x) (within : at < 2 ^ lg) where
@@ -89,7 +89,7 @@ module _ (s e : List ℕ) (lg v c x at : ℕ) (l : Lawful s lg v c) (level : len
 
   pub grown-refused : (why : Refusal) → told why ≡ growthJudged s (lg + 1) v → GrownBy s e lg v c x s e (change.Refused why)
   unfolding growOn
-  grown-refused why r = refused-change (growOn s lg v c) (rebuilt (place s lg v x) lg (lg + 1) v) s e why (ap (λ (o : Outcome). andThen o (changed (lg + 1) v (c + 1))) (sym r) ∙ ends-both why (changed (lg + 1) v (c + 1)))
+  grown-refused why r = refused-change (growOn s lg v c) (rebuilt (place s lg v x) lg (lg + 1) v) s e why (ap (λ (o : Outcome). andThen o (changed (lg + 1) v (c + 1))) (sym r) ∙ stays why (changed (lg + 1) v (c + 1)))
 
   pub grown-done : (t u w : List ℕ) (answer : ChangeAnswer) → toldChange answer ≡ changed (lg + 1) v (c + 1) → growthJudged s (lg + 1) v ≡ accepted [] → w ≡ blank e
       → t ≡ rebuilt (set s at x) lg (lg + 1) v → u ≡ blank w → GrownBy s e lg v c x t u answer

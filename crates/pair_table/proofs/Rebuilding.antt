@@ -9,12 +9,13 @@ use native.Mathlib.Numerals.{add-one}
 use lib.ListN.{length, getD, replicate, length-replicate, getD-replicate}
 use lib.Seq.{getD-set-other}
 use Rattle.laws.specs.Choose.{choose}
+use Rattle.laws.proofs.Orders.{same-or-not}
 use Rattle.tables.specs.Slots.{empty, home, next, stops, probe, spot}
 use Rattle.tables.specs.Changes.{blank, place, fill, rebuilt}
 use Rattle.tables.specs.Shapes.{AllSmall, EmptyFrom}
 use Rattle.tables.proofs.Laws.{home-lt}
-use Rattle.tables.proofs.Paths.{same-or-not, next-lt}
-use Rattle.tables.proofs.Delete.{small-set}
+use Rattle.tables.proofs.Stepping.{next-lt}
+use Rattle.tables.proofs.Placing.{small-set}
 use Rattle.tables.proofs.Refilled.{fill-none, fill-one, length-fill}
 
 -- a search stays among the slots
@@ -88,11 +89,6 @@ module _ (s : List ℕ) (lg to v : ℕ) (bits : to ≤ v) (room : 2 ^ to ≤ len
   pub rebuilt-beyond : EmptyFrom (rebuilt s lg to v) (2 ^ to) (length s)
   unfolding rebuilt
   rebuilt-beyond p h l = fill-stays s (2 ^ lg) (blank s) to v bits small (2 ^ lg) (omega arith) p h ∙ blank-at p l
-
-  pub rebuilt-small : AllSmall (rebuilt s lg to v) (2 ^ to) v
-  unfolding rebuilt
-  rebuilt-small =
-      fill-small s (2 ^ lg) (blank s) to v bits small (rw (length-replicate (length s) empty) room) (2 ^ to) (λ p h full. absurd (full (blank-at p (omega arith)))) (2 ^ lg) (omega arith)
 
 -- the spare of a rebuild, once the items are stored in it
 pub refilled : (s e f : List ℕ) (m lg to v : ℕ) → f ≡ fill s m e to v → m ≡ 2 ^ lg → e ≡ blank e → length s ≡ length e → f ≡ rebuilt s lg to v

@@ -17,7 +17,8 @@ use Rattle.tables.specs.Changes.{blank}
 use Rattle.tables.specs.Shapes.{steps, EmptyFrom, Lawful, Built}
 use Rattle.tables.specs.Calls.{itemJudged, itemsJudged}
 use Rattle.tables.proofs.Laws.{stops-empty, stops-not, at-or-below, all-empty}
-use Rattle.tables.proofs.Paths.{Ends, steps-line, spot-ends, run-none}
+use Rattle.tables.proofs.Stepping.{steps-line}
+use Rattle.tables.proofs.Paths.{Ends, spot-ends, run-none}
 use Rattle.tables.proofs.Refilled.{items-some}
 use Rattle.tables.proofs.Items.{Fine, fine-item, fine-items}
 use Rattle.tables.proofs.Finger.{Before, first, stay}

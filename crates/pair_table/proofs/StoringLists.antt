@@ -9,10 +9,12 @@ use lib.ListN.{length, getD, drop, replicate, length-replicate}
 use lib.Dec.{eqb, leb, ltb}
 use borrow.Author.Tests.{ltb-false, leb-true, leb-false}
 use Rattle.laws.specs.Choose.{choose}
+use Rattle.laws.proofs.Truths.{neither}
 use Rattle.refusals.specs.Outcome.{Outcome, accepted, refused, andThen}
 use Rattle.refusals.specs.Told.{told}
 use Rattle.refusals.specs.declared.Refusal.{Refusal}
 use Rattle.refusals.proofs.Only.{never-accepted}
+use Rattle.refusals.proofs.Refusing.{stays}
 use Rattle.tables.specs.Slots.{empty}
 use Rattle.tables.specs.Changes.{blank, fill, fits, leastLg, buildLg}
 use Rattle.tables.specs.Shapes.{Lawful, Built}
@@ -26,7 +28,6 @@ use Rattle.pair_table.specs.Told.{toldTable}
 use Rattle.pair_table.specs.Steps.{lentJudged, Buildable, storeOn, buildOn, MadeBy, StoredBy, BuiltBy}
 use Rattle.pair_table.specs.declared.TableAnswer.{TableAnswer}
 use Rattle.pair_table.specs.declared.TableAnswer.the-variants as table
-use Rattle.pair_table.proofs.Judging.{ends-both, neither}
 
 -- ---- the items, one after the other
 
@@ -35,7 +36,7 @@ Judging v list i = (i ≤ length list) × (itemsJudged v 0 list ≡ itemsJudged 
 
 pub items-refused : (v : ℕ) (list : List ℕ) (i : ℕ) (why : Refusal) → Judging v list i → i < length list → told why ≡ itemJudged v (getD list i 0) i → told why ≡ itemsJudged v 0 list
 items-refused v list i why j h r =
-    sym (j .1 ∙ items-turn v i list h ∙ ap (λ (o : Outcome). andThen o (itemsJudged v (suc i) (drop (suc i) list))) (sym r) ∙ ends-both why (itemsJudged v (suc i) (drop (suc i) list)))
+    sym (j .1 ∙ items-turn v i list h ∙ ap (λ (o : Outcome). andThen o (itemsJudged v (suc i) (drop (suc i) list))) (sym r) ∙ stays why (itemsJudged v (suc i) (drop (suc i) list)))
 
 pub items-next : (v : ℕ) (list : List ℕ) (i : ℕ) → Judging v list i → i < length list → accepted [] ≡ itemJudged v (getD list i 0) i → Judging v list (i + 1)
 items-next v list i j h r =
@@ -101,7 +102,7 @@ left-by (refused number place) why e (refuses d) built twice before = simp d
 -- a refusal by such a judgement, whatever was to come after it
 pub built-refused : (whole judged more : Outcome) (v : ℕ) (list s e : List ℕ) (why : Refusal) → whole ≡ andThen judged more → told why ≡ judged → Leaves judged → MadeBy whole v list s e s e (table.Refused why)
 built-refused whole judged more v list s e why chain r l =
-    let is : whole ≡ told why = chain ∙ ap (λ (o : Outcome). andThen o more) (sym r) ∙ ends-both why more in
+    let is : whole ≡ told why = chain ∙ ap (λ (o : Outcome). andThen o more) (sym r) ∙ stays why more in
     let kept : (built twice before : List ℕ) → before ≡ ifBuilt whole built twice before =
     λ built twice before. sym (ap (λ (o : Outcome). ifBuilt o built twice before) (is ∙ r) ∙ left-by judged why r l built twice before) in
     record { says = sym is; region = kept (fill list (length list) (blank s) (buildLg (length list)) v) (blank s) s; spare = kept (blank e) (blank e) e }

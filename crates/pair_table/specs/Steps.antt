@@ -9,7 +9,7 @@ use Rattle.laws.specs.Choose.{choose}
 use Rattle.refusals.specs.Outcome.{Outcome, refused, andThen}
 use Rattle.tables.specs.Slots.{empty, holds}
 use Rattle.tables.specs.Changes.{blank, place, rebuilt, fits, inserted, halvedLg, deleted, fill, buildLg}
-use Rattle.tables.specs.Shapes.{Lawful, Member}
+use Rattle.tables.specs.Shapes.{Lawful, EachNew}
 use Rattle.tables.specs.Calls.{unequal, recordOf, unchanged, changed, ifChanged, ifBuilt, growthJudged, itemsJudged, twiceJudged}
 use Rattle.pair_table.specs.Told.{toldTable, toldChange}
 use Rattle.pair_table.specs.declared.TableAnswer.{TableAnswer}
@@ -63,7 +63,7 @@ pub record BuiltTo (o t s : List ℕ) (lg v least i : ℕ) : Type 0 where
   pub now-is : s ≡ fill o i t lg v
   pub lawful : Lawful s lg v i
   pub below : (p : ℕ) → p < 2 ^ lg → (getD s p 0 ≡ empty → ⊥) → getD s p 0 < least
-  pub fresh : (k : ℕ) → k < i → Member (fill o k t lg v) (2 ^ lg) (getD o k 0) → ⊥
+  pub fresh : EachNew o t lg v i
 
 -- what is left of it then, and what is left once the table may have its slots
 unfoldable pub storeOn : ℕ → List ℕ → Outcome

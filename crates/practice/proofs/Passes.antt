@@ -36,9 +36,6 @@ pub window-passes : checkOf windowBook ≡ accepted []
 unfolding windowBook windowEntry listOf firstMisshapen taken everyBelow decodedFrom
 window-passes = passes windowBook refl refl refl refl
 
--- so readers and writers have what they need of them
-pub pair-matches : Matches pairBook (tableOf pairBook)
-pair-matches = own-table pairBook pair-passes
-
+-- so readers and writers have what they need of the window's
 pub window-matches : Matches windowBook (tableOf windowBook)
 window-matches = own-table windowBook window-passes

@@ -1,5 +1,5 @@
 -- The bits before the end of a whole reading decide it: the pad, and what follows, decide nothing. Assumes nothing.
-use mathlib.Core.Path.{_≡_, refl, sym, ap, ap₂, _∙_, subst}
+use mathlib.Core.Path.{_≡_, refl, sym, ap, ap₂, _∙_}
 use mathlib.Core.List.{List, [], _++_}
 use Prim.Native.Nat.{ℕ, zero, suc, _+_, _-_, _*_, _^_, _≤_, min}
 use native.Mathlib.Omega.{arith}
@@ -100,9 +100,6 @@ pub pairs-agree : (book : List ℕ) (k count : ℕ) (stream stream′ : List ℕ
     → min (wordBits stream) (next + (10 - baseBitsAt k count)) ≤ wordBits stream′ → pairsReading book k count stream′ ≡ pairsReading book k count stream
 pairs-agree book k count stream stream′ next ok d same reach =
     pairs-agree-from book ok (number stream) (wordBits stream) (number stream′) (wordBits stream′) next same (baseBitsAt k count) k reach count 0 0 0 d .2
-
-pub whole-decided : (ending : Ending) (next : ℕ) → ending ≡ whole next → Decided ending next
-whole-decided ending next e = subst (λ (x : Ending). Decided x next) (sym e) refl
 
 pub window-agree : (book : List ℕ) (k : ℕ) (stream stream′ : List ℕ) (next : ℕ) → checkOf book ≡ accepted []
     → windowReading book k stream .ending ≡ whole next → bitsAt (number stream) 0 next ≡ bitsAt (number stream′) 0 next

@@ -10,12 +10,11 @@ use Rattle.laws.specs.Choose.{choose}
 use Rattle.refusals.specs.Outcome.{Outcome, accepted, refused, andThen, ifAccepted}
 use Rattle.refusals.specs.Told.{told}
 use Rattle.refusals.specs.declared.Refusal.{Refusal}
-use Rattle.refusals.proofs.Refusing.{kept}
+use Rattle.refusals.proofs.Refusing.{kept, stays, both-accepted}
 use Rattle.tables.specs.Shapes.{Lawful}
 use Rattle.tables.specs.Calls.{tableJudged, listOfItems}
-use Rattle.tables.proofs.Items.{never, first-accepted, then-accepted}
+use Rattle.tables.proofs.Items.{never}
 use Rattle.tables.proofs.Says.{judged-is}
-use Rattle.pair_table.proofs.Judging.{ends-both}
 
 roomy : (b : Bool) (c : ℕ) → choose b (refused 5 0) (accepted (c ∷ [])) ≡ accepted (c ∷ []) → b ≡ false
 roomy true c e = absurd (never e)
@@ -26,13 +25,13 @@ pub listable : (s e : List ℕ) (lg v c : ℕ) (out : List ℕ) → listOfItems 
 unfolding listOfItems
 listable s e lg v c out h =
     let more : Outcome = choose (ltb (length out) c) (refused 5 0) (accepted (c ∷ [])) in
-    let first = first-accepted (tableJudged s e lg v c) more h in
-    (judged-is s e lg v c (first .1) .1, ltb-false (length out) c (roomy (ltb (length out) c) c (then-accepted (tableJudged s e lg v c) more h)))
+    let b = both-accepted (tableJudged s e lg v c) more (c ∷ []) h in
+    (judged-is s e lg v c (b .0 .1) .1, ltb-false (length out) c (roomy (ltb (length out) c) c (b .1)))
 
 module _ (whole more : Outcome) (after out : List ℕ) where
   pub list-refused : (why : Refusal) → whole ≡ andThen (told why) more → (told why ≡ whole) × (out ≡ ifAccepted whole after out)
   list-refused why chain =
-      let is : whole ≡ told why = chain ∙ ends-both why more in
+      let is : whole ≡ told why = chain ∙ stays why more in
       (sym is, sym (ap (λ (o : Outcome). ifAccepted o after out) is ∙ kept why after out))
 
   pub list-done : (c : ℕ) (u : List ℕ) → whole ≡ accepted (c ∷ []) → u ≡ after → (accepted (c ∷ []) ≡ whole) × (u ≡ ifAccepted whole after out)
@@ -43,4 +42,4 @@ pub room-refused : (s e : List ℕ) (lg v c : ℕ) (out : List ℕ) (why : Refus
 unfolding listOfItems
 room-refused s e lg v c out why r =
     let more : Outcome = choose (ltb (length out) c) (refused 5 0) (accepted (c ∷ [])) in
-    ap (λ (o : Outcome). andThen o more) (sym r) ∙ ends-both why more ∙ sym (ends-both why (accepted (c ∷ [])))
+    ap (λ (o : Outcome). andThen o more) (sym r) ∙ stays why more ∙ sym (stays why (accepted (c ∷ [])))

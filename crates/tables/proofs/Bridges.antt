@@ -11,9 +11,10 @@ use borrow.Author.Tests.{eq-eqb, ne-eqb, eqb-true, lt-ltb, ltb-true, le-leb, leb
 use Rattle.laws.specs.Below.{everyBelow}
 use Rattle.laws.proofs.Below.{every-at, every-of, some-false}
 use Rattle.laws.proofs.Truths.{true-or-false, never-true, and-left, and-right, and-both, or-true, or-left, or-right}
+use Rattle.laws.proofs.Orders.{same-or-not, le-or-lt}
 use Rattle.tables.specs.Slots.{empty, spot, items, holds, sized, placedAt, emptyBeyond, lawful}
 use Rattle.tables.specs.Shapes.{Placed, AllPlaced, EmptyFrom, Lawful, Decides, Member}
-use Rattle.tables.proofs.Paths.{same-or-not, le-or-lt, only-there, spot-lt}
+use Rattle.tables.proofs.Placing.{only-there, spot-lt}
 
 -- two ways to say whether A holds are the same
 pub decided : {A : Type 0} (r b : Bool) → Decides A r → (b ≡ true → A) → (A → b ≡ true) → r ≡ b
@@ -132,22 +133,6 @@ is-lawful s lg v c l =
 pub lawful-by : (s : List ℕ) (lg v c : ℕ) (r : Bool) → Decides (Lawful s lg v c) r → r ≡ lawful s lg v c
 lawful-by s lg v c r d = decided r (lawful s lg v c) d (lawful-is s lg v c) (is-lawful s lg v c)
 
--- the same for the slots beyond
-pub beyond-by : (s : List ℕ) (n : ℕ) (r : Bool) → Decides (EmptyFrom s n (length s)) r → r ≡ emptyBeyond s n
-beyond-by s n r d = decided r (emptyBeyond s n) d (beyond-is s n) (is-beyond s n)
-
--- for the placed slots
-pub placed-by : (s : List ℕ) (lg v n : ℕ) (r : Bool) → Decides (AllPlaced s lg v n) r → r ≡ everyBelow n (placedAt s lg v)
-placed-by s lg v n r d = decided r (everyBelow n (placedAt s lg v)) d (all-placed s lg v n) (placed-all s lg v n)
-
--- for one slot
-pub slot-by : (s : List ℕ) (lg v p : ℕ) (r : Bool) → Decides ((getD s p 0 ≡ empty → ⊥) → Placed s lg v p) r → r ≡ placedAt s lg v p
-slot-by s lg v p r d = decided r (placedAt s lg v p) d (placed-is s lg v p) (is-placed s lg v p)
-
--- and for the sizes
-pub sized-by : (lg v : ℕ) (r : Bool) → Decides (Sized lg v) r → r ≡ sized lg v
-sized-by lg v r d = decided r (sized lg v) d (sized-is lg v) (is-sized lg v)
-
 -- one of the first n slots holds x
 pub holds-at : (s : List ℕ) (n x : ℕ) → holds s n x ≡ true → (p : ℕ) × (p < n) × (getD s p 0 ≡ x)
 unfolding holds
@@ -179,11 +164,6 @@ holds-not s n x f d = never-true (holds s n x) (λ e. f (holds-member s n x d e)
 -- what is not held is no member
 pub not-holds : (s : List ℕ) (n x : ℕ) → holds s n x ≡ false → Member s n x → ⊥
 not-holds s n x e m = true≢false (sym (member-holds s n x m) ∙ e)
-
--- two regions that stand for one set hold the same
-pub holds-same : (s t : List ℕ) (n k x : ℕ) → (x ≡ empty → ⊥) → (Member s n x → Member t k x) → (Member t k x → Member s n x) → holds s n x ≡ holds t k x
-holds-same s t n k x d f g =
-    decided (holds s n x) (holds t k x) (decides (holds s n x) (λ e. f (holds-member s n x d e)) (λ m. member-holds s n x (g m))) (holds-member t k x d) (member-holds t k x)
 
 -- in a lawful table a search for x finds it exactly if it is there
 pub holds-spot : (s : List ℕ) (lg v c x : ℕ) → Lawful s lg v c → x < 2 ^ v → (x ≡ empty → ⊥) → holds s (2 ^ lg) x ≡ eqb (getD s (spot s lg v x) 0) x

@@ -8,17 +8,15 @@ use native.Mathlib.Omega.{arith}
 use native.Mathlib.Nat.{eq-or-lt-of-le}
 use native.Mathlib.Numerals.{add-one}
 use lib.ListN.{length, getD}
-use lib.Dec.{eqb}
-use borrow.Author.Tests.{eq-eqb, ne-eqb}
 use Rattle.laws.specs.Choose.{choose}
 use Rattle.laws.proofs.Truths.{never-true}
 use Rattle.refusals.specs.Outcome.{accepted, refused}
 use Rattle.tables.specs.Slots.{empty, spot, holds}
 use Rattle.tables.specs.Changes.{place, fill}
 use Rattle.tables.specs.Calls.{twiceJudged}
-use Rattle.tables.specs.Shapes.{Lawful, Member, Built}
+use Rattle.tables.specs.Shapes.{Lawful, Member, EachNew, Built}
 use Rattle.tables.proofs.Laws.{at-or-below}
-use Rattle.tables.proofs.Paths.{spot-lt, at-end, place-lawful, place-member, member-place}
+use Rattle.tables.proofs.Placing.{spot-lt, at-end, place-lawful, place-member, member-place}
 use Rattle.tables.proofs.Refilled.{fill-one, none-in}
 use Rattle.tables.proofs.Items.{Fine, never}
 use Rattle.tables.proofs.Bridges.{holds-at, at-holds}
@@ -57,9 +55,6 @@ module _ (o t : List ℕ) (lg v : ℕ) (base : Lawful t lg v 0) (fine : (k : ℕ
   abbrev Listed : ℕ → ℕ → Type 0
   Listed k y = (p : ℕ) × (p < k) × (getD o p 0 ≡ y)
 
-  abbrev Fresh : ℕ → Type 0
-  Fresh r = (k : ℕ) → k < r → Member (fill o k t lg v) (2 ^ lg) (getD o k 0) → ⊥
-
   -- s holds exactly the first k items
   record Upto (s : List ℕ) (k : ℕ) : Type 0 where
     lawful : Lawful s lg v k
@@ -93,7 +88,7 @@ module _ (o t : List ℕ) (lg v : ℕ) (base : Lawful t lg v 0) (fine : (k : ℕ
       e : getD s (spot s lg v (getD o k 0)) 0 ≡ empty
       e = at-end s lg v k (getD o k 0) (u .lawful) xs xe (λ z. new (spot s lg v (getD o k 0), qn, z, xe))
 
-  upto : (r : ℕ) → r ≤ length o → Fresh r → Upto (fill o r t lg v) r
+  upto : (r : ℕ) → r ≤ length o → EachNew o t lg v r → Upto (fill o r t lg v) r
   unfolding fill
   upto zero h f = none
   upto (suc r) h f =
@@ -101,12 +96,12 @@ module _ (o t : List ℕ) (lg v : ℕ) (base : Lawful t lg v 0) (fine : (k : ℕ
       (rw (fill-one o r t lg v (fine r h .full)) (one-more (fill o r t lg v) r h (upto r (omega arith) (λ k l. f k (omega arith))) (f r (omega arith))))
 
   -- a new item stands nowhere earlier in the list
-  pub fresh-holds : (k : ℕ) → k < length o → ((j : ℕ) → j < k → Member (fill o j t lg v) (2 ^ lg) (getD o j 0) → ⊥)
+  pub fresh-holds : (k : ℕ) → k < length o → EachNew o t lg v k
       → (Member (fill o k t lg v) (2 ^ lg) (getD o k 0) → ⊥) → holds o k (getD o k 0) ≡ false
   fresh-holds k h f new = never-true (holds o k (getD o k 0)) (λ e. new (upto k (omega arith) f .stored (getD o k 0) (fine k h .full) (holds-at o k (getD o k 0) e)))
 
   -- one that the table has stands earlier
-  pub stored-holds : (k : ℕ) → k < length o → ((j : ℕ) → j < k → Member (fill o j t lg v) (2 ^ lg) (getD o j 0) → ⊥)
+  pub stored-holds : (k : ℕ) → k < length o → EachNew o t lg v k
       → Member (fill o k t lg v) (2 ^ lg) (getD o k 0) → holds o k (getD o k 0) ≡ true
   stored-holds k h f m = let r = upto k (omega arith) f .listed (getD o k 0) m in at-holds o k (getD o k 0) (r .0) (r .1) (r .2)
 
@@ -123,38 +118,20 @@ module _ (o t : List ℕ) (lg v : ℕ) (base : Lawful t lg v 0) (fine : (k : ℕ
     pub built-stopped : r < length o → twiceJudged o (length o) 0 ≡ refused 11 r
     built-stopped l = twice-first o (length o) 0 r (omega arith) (omega arith) earlier (stored-holds r l (b .fresh) (rw (← (b .now-is)) (b .stopped l)))
 
-    -- both in one equation
-    pub built-judged : twiceJudged o (length o) 0 ≡ choose (eqb r (length o)) (accepted []) (refused 11 r)
-    built-judged = ⊎-elim
-        (λ (e : r ≡ length o). rw (eq-eqb r (length o) e) (built-whole e))
-        (λ (l : r < length o). rw (ne-eqb r (length o) (λ e. omega arith)) (built-stopped l))
-        (eq-or-lt-of-le (b .within))
-
-    -- and the other way round
-    pub whole-built : twiceJudged o (length o) 0 ≡ accepted [] → r ≡ length o
-    whole-built e = ⊎-elim (λ z. z) (λ (l : r < length o). absurd (never (sym (built-stopped l) ∙ e))) (eq-or-lt-of-le (b .within))
-
-    -- the refusal says how many went in
-    pub stopped-built : (k : ℕ) → twiceJudged o (length o) 0 ≡ refused 11 k → r ≡ k
-    stopped-built k e = ⊎-elim
-        (λ (z : r ≡ length o). absurd (never (sym e ∙ built-whole z)))
-        (λ (l : r < length o). let z : refused 11 r ≡ refused 11 k = sym (built-stopped l) ∙ e in cc)
-        (eq-or-lt-of-le (b .within))
-
   -- A list in which none stands twice, built: a lawful table that holds exactly its items.
   module _ (once : twiceJudged o (length o) 0 ≡ accepted []) where
-    fresh-at : (r : ℕ) → r < length o → Fresh r → Member (fill o r t lg v) (2 ^ lg) (getD o r 0) → ⊥
+    fresh-at : (r : ℕ) → r < length o → EachNew o t lg v r → Member (fill o r t lg v) (2 ^ lg) (getD o r 0) → ⊥
     fresh-at r h f m =
         let w = upto r (omega arith) f .listed (getD o r 0) m in
         true≢false (sym (at-holds o r (getD o r 0) (w .0) (w .1) (w .2)) ∙ none-twice o (length o) 0 once r (omega arith) (omega arith))
 
-    fresh-more : (r : ℕ) → r < length o → Fresh r → Fresh (suc r)
+    fresh-more : (r : ℕ) → r < length o → EachNew o t lg v r → EachNew o t lg v (suc r)
     fresh-more r h f k l m = ⊎-elim
         (λ (e : k ≡ r). fresh-at r h f (subst (λ (j : ℕ). Member (fill o j t lg v) (2 ^ lg) (getD o j 0)) e m))
         (λ (j : k < r). f k j m)
         (at-or-below {p = k} {i = r} (omega arith))
 
-    all-fresh : (r : ℕ) → r ≤ length o → Fresh r
+    all-fresh : (r : ℕ) → r ≤ length o → EachNew o t lg v r
     all-fresh zero h = λ k l. absurd (omega arith)
     all-fresh (suc r) h = fresh-more r h (all-fresh r (omega arith))
 

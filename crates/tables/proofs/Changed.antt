@@ -11,7 +11,7 @@ use Rattle.laws.specs.Choose.{choose}
 use Rattle.tables.specs.Slots.{empty, spot, next}
 use Rattle.tables.specs.Changes.{place, reseat, remove, rebuilt, fits, inserted, halvedLg, deleted}
 use Rattle.tables.specs.Shapes.{Lawful, Member, Stored, Grown, Removed}
-use Rattle.tables.proofs.Paths.{spot-lt, only-there, length-place, stored-new}
+use Rattle.tables.proofs.Placing.{spot-lt, only-there, length-place, stored-new}
 use Rattle.tables.proofs.Delete.{removed-some}
 use Rattle.tables.proofs.Refilled.{grown-new}
 use Rattle.tables.proofs.Items.{Fine}

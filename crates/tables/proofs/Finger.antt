@@ -9,19 +9,21 @@ use native.Mathlib.Nat.{le-trans, eq-or-lt-of-le, lt-of-lt-of-le as lt-le}
 use lib.ListN.{length, getD, set, length-set}
 use lib.Pow.{pow-pos}
 use lib.Seq.{getD-set-same, getD-set-other}
+use Rattle.laws.proofs.Orders.{same-or-not, le-or-lt}
 use Rattle.tables.specs.Slots.{empty, home, next, stops, probe, spot}
 use Rattle.tables.specs.Changes.{place, fill}
-use Rattle.tables.specs.Shapes.{steps, Lawful, RunUp, AllUnder, Member, Stored, Built}
+use Rattle.tables.specs.Shapes.{steps, Lawful, RunUp, AllUnder, EachNew, Stored, Built}
 use Rattle.tables.proofs.Laws.{stops-empty, at-or-below}
-use Rattle.tables.proofs.Paths.{same-or-not, le-or-lt, steps-add, steps-lt, next-lt, probe-ends, Path-to, path, homed, at-end, stored-new, run-clear, run-none}
-use Rattle.tables.proofs.Delete.{steps-apart, step-on}
+use Rattle.tables.proofs.Stepping.{steps-add, steps-lt, next-lt, steps-apart, step-on}
+use Rattle.tables.proofs.Paths.{probe-ends, Path-to, run-clear, run-none}
+use Rattle.tables.proofs.Placing.{path, homed, at-end, stored-new}
 use Rattle.tables.proofs.Refilled.{fill-one, items-some}
 
 -- a search whose home is in a run of items below x may as well start at the run's end
 pub resume : (s : List ℕ) (lg v c x p len top d : ℕ) → Lawful s lg v c → x < 2 ^ v → (x ≡ empty → ⊥) → RunUp s (2 ^ lg) p len top
-    → steps (2 ^ lg) (home lg v x) d ≡ p → d ≤ len → top < x → spot s lg v x ≡ probe s (2 ^ lg) x (2 ^ lg) p
-resume s lg v c x p len top d l xs xe u there near above =
-    sym (probe-ends s n x n p (w .count - d) (omega (arith, w .short)) (record { clear = after; stop = rw (on-end) (w .ends .stop) }) ∙ on-end ∙ w .there)
+    → steps (2 ^ lg) (home lg v x) d ≡ p → d ≤ len → top < x → (q : ℕ) → q ≡ probe s (2 ^ lg) x (2 ^ lg) p → q ≡ spot s lg v x
+resume s lg v c x p len top d l xs xe u there near above q found =
+    found ∙ probe-ends s n x n p (w .count - d) (omega (arith, w .short)) (record { clear = after; stop = rw (on-end) (w .ends .stop) }) ∙ on-end ∙ w .there
   where
     n : ℕ
     n = 2 ^ lg
@@ -98,7 +100,7 @@ pub record Before (o t s : List ℕ) (lg v p len top i : ℕ) : Type 0 where
   pub finger : p < 2 ^ lg
   pub run : RunUp s (2 ^ lg) p len top
   pub under : AllUnder s (2 ^ lg) top
-  pub fresh : (k : ℕ) → k < i → Member (fill o k t lg v) (2 ^ lg) (getD o k 0) → ⊥
+  pub fresh : EachNew o t lg v i
 
 module _ (o t s : List ℕ) (lg v p len top i q : ℕ) (b : Before o t s lg v p len top i) (more : i < length o) (load : 4 * length o ≤ 3 * 2 ^ lg)
     (small : getD o i 0 < 2 ^ v) (full : getD o i 0 ≡ empty → ⊥) (qz : q ≡ spot s lg v (getD o i 0)) (qn : q < 2 ^ lg) (new : getD s q 0 ≡ getD o i 0 → ⊥) where
@@ -118,7 +120,7 @@ module _ (o t s : List ℕ) (lg v p len top i q : ℕ) (b : Before o t s lg v p 
   unfolding place
   is-fill = rw qz (rw (b .now-is) (sym (fill-one o i t lg v full)))
 
-  fresh-more : (k : ℕ) → k < i + 1 → Member (fill o k t lg v) (2 ^ lg) (getD o k 0) → ⊥
+  fresh-more : EachNew o t lg v (i + 1)
   fresh-more k h m = ⊎-elim (λ (e : k ≡ i). went .new refl (rw (b .now-is) (rw e at m))) (λ z. b .fresh k z m) (at-or-below h)
 
   -- an item that is not above all others: the finger stays

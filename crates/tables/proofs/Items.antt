@@ -7,11 +7,11 @@ use native.Mathlib.Omega.{arith}
 use lib.ListN.{length, getD, drop, drop-of-length-le}
 use lib.Seq.{drop-cons}
 use borrow.Author.Tests.{eq-eqb, ne-eqb, le-leb, lt-leb}
+use Rattle.laws.proofs.Orders.{le-or-lt}
 use Rattle.refusals.proofs.Refusing.{both-accepted}
-use Rattle.refusals.specs.Outcome.{Outcome, accepted, refused, stopped, andThen}
+use Rattle.refusals.specs.Outcome.{accepted, refused, andThen}
 use Rattle.tables.specs.Slots.{empty}
 use Rattle.tables.specs.Calls.{itemJudged, itemsJudged}
-use Rattle.tables.proofs.Paths.{le-or-lt}
 
 -- an item that a table of v valid bits takes
 pub record Fine (v x : ℕ) : Type 0 where
@@ -21,14 +21,6 @@ pub record Fine (v x : ℕ) : Type 0 where
 -- an accepted outcome is no refusal
 pub never : {values : List ℕ} {number place : ℕ} → refused number place ≡ accepted values → ⊥
 never e = let z : _≡_ {A = ℕ} 0 1 = cc in omega arith
-
--- two judgements one after the other are accepted: the first is
-pub first-accepted : (a b : Outcome) {values : List ℕ} → andThen a b ≡ accepted values → (u : List ℕ) × (a ≡ accepted u)
-first-accepted a b {values} e = both-accepted a b values e .0
-
--- so is the second
-pub then-accepted : (a b : Outcome) {values : List ℕ} → andThen a b ≡ accepted values → b ≡ accepted values
-then-accepted a b {values} e = both-accepted a b values e .1
 
 -- what a table takes is accepted
 pub item-fine : (v x place : ℕ) → Fine v x → itemJudged v x place ≡ accepted []
@@ -65,9 +57,9 @@ items-end v i list h = rw (drop-of-length-le list h)
 -- a list that is accepted is fine, item by item
 pub items-fine : (v i : ℕ) (list : List ℕ) {values : List ℕ} → itemsJudged v i list ≡ accepted values → (k : ℕ) → k < length list → Fine v (getD list k 0)
 unfolding itemsJudged
-items-fine v i [] e k h = absurd (omega arith)
-items-fine v i (x ∷ more) e zero h = fine-item v x i (first-accepted (itemJudged v x i) (itemsJudged v (suc i) more) e .1)
-items-fine v i (x ∷ more) e (suc k) h = items-fine v (suc i) more (then-accepted (itemJudged v x i) (itemsJudged v (suc i) more) e) k (omega arith)
+items-fine v i [] {values} e k h = absurd (omega arith)
+items-fine v i (x ∷ more) {values} e zero h = fine-item v x i (both-accepted (itemJudged v x i) (itemsJudged v (suc i) more) values e .0 .1)
+items-fine v i (x ∷ more) {values} e (suc k) h = items-fine v (suc i) more (both-accepted (itemJudged v x i) (itemsJudged v (suc i) more) values e .1) k (omega arith)
 
 -- and the other way round
 pub fine-items : (v i : ℕ) (list : List ℕ) → ((k : ℕ) → k < length list → Fine v (getD list k 0)) → itemsJudged v i list ≡ accepted []

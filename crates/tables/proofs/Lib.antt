@@ -1,5 +1,9 @@
 pub mod Laws
+pub mod Stepping
 pub mod Paths
+pub mod Tally
+pub mod Placing
+pub mod Reseating
 pub mod Delete
 pub mod Shift
 pub mod Refilled

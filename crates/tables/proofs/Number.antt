@@ -11,11 +11,11 @@ use borrow.Author.Tests.{eq-eqb, ne-eqb}
 use Rattle.laws.specs.Choose.{choose}
 use Rattle.laws.specs.Below.{one as told, sumBelow}
 use Rattle.laws.proofs.Sums.{sum-zero, sum-add, sum-same, single}
+use Rattle.laws.proofs.Orders.{same-or-not}
 use Rattle.tables.specs.Slots.{empty, total, held, holds}
 use Rattle.tables.specs.Shapes.{Lawful}
 use Rattle.tables.proofs.Laws.{held-empty, held-full}
-use Rattle.tables.proofs.Paths.{same-or-not}
-use Rattle.tables.proofs.Delete.{one, one-same, one-other, tally-at, tally-some, once-lawful}
+use Rattle.tables.proofs.Tally.{one, one-same, one-other, tally-at, tally-some, once-lawful}
 use Rattle.tables.proofs.Bridges.{holds-at, not-holds}
 
 -- 1 if the item y stands in a slot that holds a

@@ -10,11 +10,11 @@ use borrow.Author.Tests.{eq-eqb, ne-eqb}
 use Rattle.laws.specs.Choose.{choose}
 use Rattle.laws.specs.Below.{one as told}
 use Rattle.laws.proofs.Sums.{sum-same}
+use Rattle.laws.proofs.Orders.{same-or-not}
 use Rattle.tables.specs.Slots.{empty, holds}
 use Rattle.tables.specs.Listings.{keep, isItem, extraction}
 use Rattle.tables.specs.Shapes.{Lawful}
-use Rattle.tables.proofs.Paths.{same-or-not}
-use Rattle.tables.proofs.Delete.{one, one-same, one-other}
+use Rattle.tables.proofs.Tally.{one, one-same, one-other}
 use Rattle.tables.proofs.Number.{hit, hit-never, hit-one, set-total}
 use Rattle.tables.proofs.Kept.{timesIn, sum-keep, sum-take, total-sum}
 use Rattle.tables.proofs.Extraction.{extraction-times}

@@ -3,84 +3,16 @@ use mathlib.Core.Path.{_≡_, refl, sym, ap, _∙_}
 use mathlib.Core.Bool.{Bool, true, false, true≢false, false≢true}
 use mathlib.Core.Logic.{_⊎_, inl, inr, ⊎-elim}
 use mathlib.Core.List.{List}
-use Prim.Native.Nat.{ℕ, zero, suc, _+_, _-_, _*_, _^_, _≤_, _<_}
+use Prim.Native.Nat.{ℕ, zero, suc, _+_, _-_, _^_, _≤_, _<_}
 use native.Mathlib.Omega.{arith}
-use native.Mathlib.Nat.{zero-add, suc-add, le-trans, eq-or-lt-of-le, eq-zero-or-pos}
-use native.Mathlib.Numerals.{lt-of-le-of-ne}
-use lib.ListN.{length, getD, set, length-set}
+use native.Mathlib.Nat.{le-trans, eq-or-lt-of-le, eq-zero-or-pos}
+use lib.ListN.{length, getD, set}
 use lib.Seq.{getD-set-same, getD-set-other}
-use lib.Pow.{pow-pos}
-pub use Rattle.laws.proofs.Orders.{same-or-not, le-or-lt}
-use Rattle.tables.specs.Slots.{empty, home, next, stops, probe, spot, held, total, items}
-use Rattle.tables.specs.Changes.{place}
-use Rattle.tables.specs.Shapes.{steps, Placed, AllPlaced, Lawful, Sound, Member, Stored, RunUp}
-use Rattle.tables.proofs.Laws.{next-wrap, next-inner, stops-same, stops-empty, stops-not, probe-stop, probe-go, home-lt, held-empty, held-full, at-or-below}
-
--- so many steps, and then so many
-pub steps-add : (n p a b : ℕ) → steps n p (a + b) ≡ steps n (steps n p a) b
-unfolding steps
-steps-add n p zero b = rw zero-add
-steps-add n p (suc a) b = rw suc-add (steps-add n (next n p) a b)
-
--- steps that do not pass the end
-pub steps-line : (n p k : ℕ) → p + k < n → steps n p k ≡ p + k
-unfolding steps
-steps-line n p zero l = omega arith
-steps-line n p (suc k) l =
-    let e : next n p ≡ p + 1 = next-inner n p (λ h. omega arith) in
-    let i : steps n (p + 1) k ≡ p + 1 + k = steps-line n (p + 1) k (omega arith) in
-    rw e (i ∙ omega arith)
-
--- the distance from h to p, as the code computes it
-pub steps-ahead : (n h p : ℕ) → p < n → h ≤ p → steps n h (p - h) ≡ p
-steps-ahead n h p pn l = steps-line n h (p - h) (omega arith) ∙ omega arith
-
--- it lies behind: past the end
-pub steps-behind : (n h p : ℕ) → h < n → p < h → steps n h (n - h + p) ≡ p
-unfolding steps
-steps-behind n h p hn l =
-    let last : steps n h (n - 1 - h) ≡ n - 1 = steps-line n h (n - 1 - h) (omega arith) ∙ omega arith in
-    let wrap : steps n h (n - 1 - h + 1) ≡ 0 = steps-add n h (n - 1 - h) 1 ∙ ap (next n) last ∙ next-wrap n (n - 1) (omega arith) in
-    let more : steps n 0 p ≡ p = steps-line n 0 p (omega arith) ∙ omega arith in
-    let e : n - h + p ≡ n - 1 - h + 1 + p = omega arith in
-    rw e (steps-add n h (n - 1 - h + 1) p ∙ ap (λ z. steps n z p) wrap ∙ more)
-
-steps-around : (n h : ℕ) → h < n → h ≡ 0 → steps n h (n - h) ≡ 0
-unfolding steps
-steps-around n h hn z =
-    let last : steps n h (n - 1) ≡ n - 1 = steps-line n h (n - 1) (omega arith) ∙ omega arith in
-    let e : n - h ≡ n - 1 + 1 = omega arith in
-    rw e (steps-add n h (n - 1) 1 ∙ ap (next n) last ∙ next-wrap n (n - 1) (omega arith))
-
--- every slot is met within n steps
-pub meets : (n h p : ℕ) → h < n → p < n → (k : ℕ) × (k < n) × (steps n h k ≡ p)
-meets n h p hn pn = ⊎-elim (λ l. (p - h, omega arith, steps-ahead n h p pn l)) (λ l. (n - h + p, omega arith, steps-behind n h p hn l)) (le-or-lt h p)
-
--- the next slot is a slot
-pub next-lt : (n p : ℕ) → p < n → next n p < n
-next-lt n p l = ⊎-elim (λ e. rw (next-wrap n p e) (omega arith)) (λ d. rw (next-inner n p d) (lt-of-le-of-ne (omega arith) d)) (same-or-not (p + 1) n)
-
--- steps never part or join
-next-inj : (n a b : ℕ) → a < n → b < n → next n a ≡ next n b → a ≡ b
-next-inj n a b la lb e = go (same-or-not (a + 1) n) (same-or-not (b + 1) n)
-  where
-    go : (a + 1 ≡ n) ⊎ (a + 1 ≡ n → ⊥) → (b + 1 ≡ n) ⊎ (b + 1 ≡ n → ⊥) → a ≡ b
-    go (inl x) (inl y) = omega arith
-    go (inl x) (inr y) = omega (arith, next-wrap n a x, next-inner n b y)
-    go (inr x) (inl y) = omega (arith, next-inner n a x, next-wrap n b y)
-    go (inr x) (inr y) = omega (arith, next-inner n a x, next-inner n b y)
-
--- so is the one after any steps
-pub steps-lt : (n p k : ℕ) → p < n → steps n p k < n
-unfolding steps
-steps-lt n p zero l = l
-steps-lt n p (suc k) l = steps-lt n (next n p) k (next-lt n p l)
-
--- from two slots as many steps lead to two slots
-pub steps-inj : (n a b k : ℕ) → a < n → b < n → steps n a k ≡ steps n b k → a ≡ b
-unfolding steps
-steps-inj n a b zero la lb e = e
-steps-inj n a b (suc k) la lb e = next-inj n a b la lb (steps-inj n (next n a) (next n b) k (next-lt n a la) (next-lt n b lb) e)
+use Rattle.laws.proofs.Orders.{same-or-not}
+use Rattle.tables.specs.Slots.{empty, home, next, stops, probe, spot}
+use Rattle.tables.specs.Shapes.{steps, Placed, Lawful, RunUp}
+use Rattle.tables.proofs.Laws.{next-inner, stops-same, stops-empty, stops-not, probe-stop, probe-go, home-lt, at-or-below}
+use Rattle.tables.proofs.Stepping.{steps-add, steps-line, steps-behind, steps-around, meets, steps-lt, steps-inj}
 
 -- the search for x from h ends e steps on
 pub record Ends (s : List ℕ) (n x h e : ℕ) : Type 0 where
@@ -139,6 +71,10 @@ pub stops-value : (s t : List ℕ) (x p : ℕ) → getD s p 0 ≡ getD t p 0 →
 unfolding stops
 stops-value s t x p e = rw e
 
+-- a slot that stops a search for x and does not hold x is empty
+pub stop-empty : (s : List ℕ) (x p : ℕ) → stops s x p ≡ true → (getD s p 0 ≡ x → ⊥) → getD s p 0 ≡ empty
+stop-empty s x p t d = ⊎-elim (λ e. e) (λ f. absurd (false≢true (sym (stops-not s x p d f) ∙ t))) (same-or-not (getD s p 0) empty)
+
 -- filling an empty slot leaves a search where it was, unless it ended there
 pub path-fill : (s : List ℕ) (lg v x p q a : ℕ) → Path-to s lg v x p → q < length s → getD s q 0 ≡ empty → (p ≡ q → a ≡ x) → Path-to (set s q a) lg v x p
 path-fill s lg v x p q a w l e f = record {
@@ -158,196 +94,24 @@ path-fill s lg v x p q a w l e f = record {
     last (inl d) = stops-same (set s q a) x p (rw d (getD-set-same s q a 0 l ∙ f d))
     last (inr d) = other p d ∙ (rw (w .there) at (w .ends .stop))
 
--- Sums after a store.
-total-beyond : (f : ℕ → ℕ) (s : List ℕ) (q a n : ℕ) → n ≤ q → total f (set s q a) n ≡ total f s n
-unfolding total
-total-beyond f s q a zero l = refl
-total-beyond f s q a (suc n) l = rw (total-beyond f s q a n (omega arith), getD-set-other s q n a 0 (λ e. omega arith))
-
--- a store changes a sum by what goes and what comes
-pub total-set : (f : ℕ → ℕ) (s : List ℕ) (q a n : ℕ) → q < n → q < length s → total f (set s q a) n + f (getD s q 0) ≡ total f s n + f a
-unfolding total
-total-set f s q a zero l m = absurd (omega arith)
-total-set f s q a (suc n) l m = go (λ d. total-set f s q a n d m) (same-or-not q n)
-  where
-    go : (q < n → total f (set s q a) n + f (getD s q 0) ≡ total f s n + f a) → (q ≡ n) ⊎ (q ≡ n → ⊥) → total f (set s q a) n + f (getD (set s q a) n 0) + f (getD s q 0) ≡ total f s n + f (getD s n 0) + f a
-    go ih (inl e) =
-        let i = total-beyond f s q a n (omega arith) in
-        let g : getD (set s q a) n 0 ≡ a = rw (← e) (getD-set-same s q a 0 m) in
-        rw (i, g, e) (omega arith)
-    go ih (inr d) =
-        let i = ih (lt-of-le-of-ne (omega arith) d) in
-        rw (getD-set-other s q n a 0 (λ e. d (sym e))) (omega arith)
-
--- fewer items than slots leave one empty
-pub some-empty : (s : List ℕ) (n : ℕ) → items s n < n → (p : ℕ) × (p < n) × (getD s p 0 ≡ empty)
-unfolding total
-some-empty s zero l = absurd (omega arith)
-some-empty s (suc n) l = go (some-empty s n) (same-or-not (getD s n 0) empty)
-  where
-    go : (items s n < n → (p : ℕ) × (p < n) × (getD s p 0 ≡ empty)) → (getD s n 0 ≡ empty) ⊎ (getD s n 0 ≡ empty → ⊥) → (p : ℕ) × (p < suc n) × (getD s p 0 ≡ empty)
-    go ih (inl e) = (n, omega arith, e)
-    go ih (inr d) = let r = ih (omega (arith, held-full (getD s n 0) d)) in (r .0, omega arith, r .2)
-
--- a store keeps the region's length
-pub length-place : (s : List ℕ) (lg v x : ℕ) → length (place s lg v x) ≡ length s
-unfolding place
-length-place s lg v x = length-set s (spot s lg v x) x
-
--- A lawful table, with x to be stored where its search ends, and room for it.
-module _ (s : List ℕ) (lg v c x : ℕ) (l : Lawful s lg v c) (xs : x < 2 ^ v) (xe : x ≡ empty → ⊥) where
-  pub homed : (y : ℕ) → y < 2 ^ v → home lg v y < 2 ^ lg
-  unfolding home
-  homed y h = home-lt lg v y (omega (arith, l .bits-least)) h
-
-  -- an empty slot stops every search
-  free : (p : ℕ) × (p < 2 ^ lg) × (getD s p 0 ≡ empty)
-  free = some-empty s (2 ^ lg) (omega (arith, l .count, l .load, pow-pos lg))
-
-  -- the search for any y below 2 ^ v ends at y or at an empty slot
-  pub path : (y : ℕ) → y < 2 ^ v → Path-to s lg v y (spot s lg v y)
-  path y h = path-of s lg v y (free .0) (homed y h) (free .1) (stops-empty s y (free .0) (free .2))
-
-  -- the search for x ends at a slot
-  pub spot-lt : spot s lg v x < 2 ^ lg
-  spot-lt = rw (path x xs .there) at (steps-lt (2 ^ lg) (home lg v x) (path x xs .count) (homed x xs))
-
-  -- an item's own search ends at its slot
-  own : (p : ℕ) → p < 2 ^ lg → (getD s p 0 ≡ empty → ⊥) → Path-to s lg v (getD s p 0) p
-  own p h f =
-      let w = l .placed p h f in
-      rw (w .found) at (path (getD s p 0) (w .small))
-
-  q : ℕ
-  q = spot s lg v x
-
-  stopped : stops s x q ≡ true
-  unfolding q
-  stopped = rw (path x xs .there) at (path x xs .ends .stop)
-
-  -- that is empty if it is not x
-  pub at-end : (getD s (spot s lg v x) 0 ≡ x → ⊥) → getD s (spot s lg v x) 0 ≡ empty
-  unfolding q
-  at-end d = ⊎-elim (λ e. e) (λ f. absurd (false≢true (sym (stops-not s x q d f) ∙ stopped))) (same-or-not (getD s q 0) empty)
-
-  -- x is in the table exactly if its search ends at it
-  pub only-there : Member s (2 ^ lg) x → getD s (spot s lg v x) 0 ≡ x
-  only-there m =
-      let w = l .placed (m .0) (m .1) (λ e. xe (sym (m .2) ∙ e)) in
-      let f : spot s lg v x ≡ m .0 = rw (m .2) at (w .found) in
-      rw f (m .2)
-
-  module _ (qn : spot s lg v x < 2 ^ lg) (e : getD s (spot s lg v x) 0 ≡ empty) where
-    ql : spot s lg v x < length s
-    ql = omega (arith, l .room)
-
-    t : List ℕ
-    t = place s lg v x
-
-    at-q : getD t q 0 ≡ x
-    unfolding t place q
-    at-q = getD-set-same s q x 0 ql
-
-    at-other : (p : ℕ) → (p ≡ q → ⊥) → getD t p 0 ≡ getD s p 0
-    unfolding t place q
-    at-other p d = getD-set-other s q p x 0 d
-
-    placed-q : Placed t lg v q
-    unfolding t place q
-    placed-q = rec at-q
-      where
-        rec : getD t q 0 ≡ x → Placed t lg v q
-        rec g = record {
-          small = rw g xs;
-          found = rw g (path-spot (path-fill s lg v x q q x (path x xs) ql e (λ d. refl)));
-        }
-
-    placed-other : (p : ℕ) → p < 2 ^ lg → (p ≡ q → ⊥) → (getD s p 0 ≡ empty → ⊥) → Placed t lg v p
-    unfolding t place q
-    placed-other p h d f =
-        let g = at-other p d in
-        record {
-          small = rw g (l .placed p h f .small);
-          found = rw g (path-spot (path-fill s lg v (getD s p 0) p q x (own p h f) ql e (λ z. absurd (d z))));
-        }
-
-    -- after the store every item is placed
-    pub place-placed : AllPlaced (place s lg v x) lg v (2 ^ lg)
-    unfolding t
-    place-placed p h f = ⊎-elim (λ (z : p ≡ q). rw z placed-q) (λ d. placed-other p h d (λ g. f (at-other p d ∙ g))) (same-or-not p q)
-
-    -- there is one more
-    pub place-count : items (place s lg v x) (2 ^ lg) ≡ c + 1
-    unfolding place
-    place-count = omega (arith, total-set held s (spot s lg v x) x (2 ^ lg) qn ql, held-empty (getD s (spot s lg v x) 0) e, held-full x xe, l .count)
-
-    -- so the table is sound
-    pub place-sound : Sound (place s lg v x) lg v (c + 1)
-    place-sound = record { bits-most = l .bits-most; room = rw (length-place s lg v x) (l .room); count = place-count; placed = place-placed }
-
-    -- and lawful if it is not too full
-    pub place-lawful : 4 * (c + 1) ≤ 3 * 2 ^ lg → Lawful (place s lg v x) lg v (c + 1)
-    unfolding t q
-    place-lawful r = record {
-      lg-least = l .lg-least;
-      lg-most = l .lg-most;
-      bits-least = l .bits-least;
-      bits-most = l .bits-most;
-      room = rw long (l .room);
-      count = place-count;
-      load = r;
-      placed = place-placed;
-      beyond = λ p h m. past p h (rw long at m);
-    }
-      where
-        long : length (place s lg v x) ≡ length s
-        long = length-place s lg v x
-
-        past : (p : ℕ) → 2 ^ lg ≤ p → p < length s → getD (place s lg v x) p 0 ≡ empty
-        past p h m = at-other p (λ z. omega (arith, z)) ∙ l .beyond p h m
-
-    -- what it holds was there or is x
-    pub place-member : (y : ℕ) → Member (place s lg v x) (2 ^ lg) y → Member s (2 ^ lg) y ⊎ (y ≡ x)
-    unfolding t q
-    place-member y m = ⊎-elim
-        (λ (z : m .0 ≡ q). inr (sym (m .2) ∙ rw z at-q))
-        (λ d. inl (m .0, m .1, sym (at-other (m .0) d) ∙ m .2, m .3))
-        (same-or-not (m .0) q)
-
-    -- what was there it holds, and x
-    pub member-place : (y : ℕ) → Member s (2 ^ lg) y ⊎ (y ≡ x) → Member (place s lg v x) (2 ^ lg) y
-    unfolding t q
-    member-place y (inl m) = (m .0, m .1, at-other (m .0) (λ z. m .3 (sym (m .2) ∙ rw z e)) ∙ m .2, m .3)
-    member-place y (inr z) = (spot s lg v x, qn, at-q ∙ sym z, λ g. xe (sym z ∙ g))
-
--- The two answers of a store, from where the search ended and what stands there.
-pub stored-there : (s : List ℕ) (lg v c x q : ℕ) → q ≡ spot s lg v x → q < 2 ^ lg → (x ≡ empty → ⊥) → getD s q 0 ≡ x → Stored s s lg v c x false
-stored-there s lg v c x q z qn xe g = record {
-  was = λ r. (q, qn, g, xe);
-  kept = λ r. refl;
-  new = λ r. absurd (false≢true r);
-  now-is = λ r. absurd (false≢true r);
-  lawful = λ r. absurd (false≢true r);
-  holds = λ r. absurd (false≢true r);
-  held-on = λ r. absurd (false≢true r);
+-- a store off its path leaves a search where it was
+pub path-off : (s : List ℕ) (lg v x p b a : ℕ) (w : Path-to s lg v x p) → ((k : ℕ) → k ≤ w .count → steps (2 ^ lg) (home lg v x) k ≡ b → ⊥) → Path-to (set s b a) lg v x p
+path-off s lg v x p b a w off = record {
+  count = w .count;
+  short = w .short;
+  ends = record {
+    clear = λ k m. stops-value (set s b a) s x _ (getD-set-other s b _ a 0 (off k (omega arith))) ∙ w .ends .clear k m;
+    stop = stops-value (set s b a) s x _ (getD-set-other s b _ a 0 (off (w .count) (omega arith))) ∙ w .ends .stop;
+  };
+  there = w .there;
 }
 
--- it was not there, and is stored
-pub stored-new : (s : List ℕ) (lg v c x q : ℕ) → Lawful s lg v c → x < 2 ^ v → (x ≡ empty → ⊥) → 4 * (c + 1) ≤ 3 * 2 ^ lg
-    → q ≡ spot s lg v x → q < 2 ^ lg → (getD s q 0 ≡ x → ⊥) → Stored s (set s q x) lg v c x true
-unfolding place
-stored-new s lg v c x q l xs xe room z qn d = rw z (go (rw z at qn) (at-end s lg v c x l xs xe (rw z at d)))
-  where
-    go : spot s lg v x < 2 ^ lg → getD s (spot s lg v x) 0 ≡ empty → Stored s (set s (spot s lg v x) x) lg v c x true
-    go h e = record {
-      was = λ r. absurd (true≢false r);
-      kept = λ r. absurd (true≢false r);
-      new = λ r m. xe (sym (only-there s lg v c x l xs xe m) ∙ e);
-      now-is = λ r. refl;
-      lawful = λ r. place-lawful s lg v c x l xs xe h e room;
-      holds = λ r. place-member s lg v c x l xs xe h e;
-      held-on = λ r. member-place s lg v c x l xs xe h e;
-    }
+-- the search for the item at p ends at p
+pub own-path : (s : List ℕ) (lg v c p : ℕ) → Lawful s lg v c → p < 2 ^ lg → (getD s p 0 ≡ empty → ⊥) → Path-to s lg v (getD s p 0) p
+unfolding home
+own-path s lg v c p l h f =
+    let w = l .placed p h f in
+    rw (w .found) at (path-of s lg v (getD s p 0) p (home-lt lg v (getD s p 0) (omega (arith, l .bits-least)) (w .small)) h (stops-same s (getD s p 0) p refl))
 
 -- a search whose home is in a run of items below x walks the run to its end
 pub run-clear : (s : List ℕ) (n x h p len top d : ℕ) → RunUp s n p len top → h < n → steps n h d ≡ p → d ≤ len → top < x → (k : ℕ) → k < d → stops s x (steps n h k) ≡ false

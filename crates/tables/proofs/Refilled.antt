@@ -1,6 +1,6 @@
 -- Storing the items of one table in another. Assumes nothing.
 use mathlib.Core.Path.{_≡_, refl, sym, ap, _∙_, subst}
-use mathlib.Core.Bool.{Bool, true, false, true≢false, false≢true}
+use mathlib.Core.Bool.{Bool, true, false, true≢false}
 use mathlib.Core.Logic.{_⊎_, inl, inr, ⊎-elim}
 use mathlib.Core.List.{List}
 use Prim.Native.Nat.{ℕ, zero, suc, _+_, _*_, _^_, _≤_, _<_}
@@ -13,12 +13,13 @@ use lib.Dec.{eqb}
 use lib.Arith.{le-of-le-suc-ne}
 use borrow.Author.Tests.{eq-eqb, ne-eqb}
 use Rattle.laws.specs.Choose.{choose}
+use Rattle.laws.proofs.Orders.{same-or-not}
 use Rattle.tables.specs.Slots.{empty, spot, held, total, items}
 use Rattle.tables.specs.Changes.{place, fill, rebuilt}
 use Rattle.tables.specs.Shapes.{Lawful, Sound, Member, AllSmall, Grown}
 use Rattle.tables.proofs.Laws.{held-empty, held-full, items-full}
-use Rattle.tables.proofs.Paths.{same-or-not, place-lawful, place-sound, place-member, member-place, only-there, at-end, spot-lt, length-place, total-set}
-use Rattle.tables.proofs.Delete.{one, one-same, one-other, tally-at, tally-some, once-placed}
+use Rattle.tables.proofs.Tally.{total-set, one, one-same, one-other, tally-at, tally-some, once-placed}
+use Rattle.tables.proofs.Placing.{place-lawful, place-sound, place-member, member-place, only-there, at-end, spot-lt, length-place}
 
 -- an empty slot adds nothing
 pub fill-none : (o : List ℕ) (k : ℕ) (t : List ℕ) (lg v : ℕ) → getD o k 0 ≡ empty → fill o (k + 1) t lg v ≡ fill o k t lg v
@@ -176,15 +177,3 @@ grown-new s lg v c x q l xs xe small bits room z qn d = rw z (go (rw z at qn) (a
           holds = λ r y m. place-member s lg v c x l xs xe h e y (rebuilt-only (place s lg v x) lg v (c + 1) (lg + 1) w least most bits k f y m);
           held-on = λ r y m. rebuilt-has (place s lg v x) lg v (c + 1) (lg + 1) w least most bits k f y (member-place s lg v c x l xs xe h e y m);
         }
-
--- it was there
-pub grown-there : (s : List ℕ) (lg v c x q : ℕ) → q < 2 ^ lg → (x ≡ empty → ⊥) → getD s q 0 ≡ x → Grown s s lg v c x false
-grown-there s lg v c x q qn xe g = record {
-  was = λ r. (q, qn, g, xe);
-  kept = λ r. refl;
-  new = λ r. absurd (false≢true r);
-  now-is = λ r. absurd (false≢true r);
-  lawful = λ r. absurd (false≢true r);
-  holds = λ r. absurd (false≢true r);
-  held-on = λ r. absurd (false≢true r);
-}

@@ -1,6 +1,6 @@
 -- What the calls on a lawful table say, case by case. Assumes nothing.
 use mathlib.Core.Path.{_≡_, refl, sym, _∙_}
-use mathlib.Core.Bool.{Bool, true, false, not, _||_, true≢false}
+use mathlib.Core.Bool.{Bool, true, false, not, _||_}
 use mathlib.Core.Logic.{⊎-elim}
 use mathlib.Core.List.{List, [], _∷_}
 use Prim.Native.Nat.{ℕ, _+_, _-_, _^_, _≤_, _<_}
@@ -9,13 +9,15 @@ use lib.ListN.{length, getD}
 use lib.Dec.{eqb, leb, ltb}
 use borrow.Author.Tests.{eq-eqb, eqb-true, ltb-false, leb-false, not-false}
 use Rattle.laws.specs.Choose.{choose}
+use Rattle.laws.proofs.Truths.{neither}
+use Rattle.laws.proofs.Orders.{same-or-not, le-or-lt}
 use Rattle.refusals.specs.Outcome.{Outcome, accepted, refused, andThen}
+use Rattle.refusals.proofs.Refusing.{both-accepted}
 use Rattle.tables.specs.Slots.{empty, holds, sized, lawful}
 use Rattle.tables.specs.Changes.{fits, halvedLg, buildLg}
 use Rattle.tables.specs.Calls.{unequal, unchanged, changed, recordOf, tableJudged, itemJudged, growthJudged, itemsJudged, twiceJudged, insertOf, deleteOf, buildOf, newOf}
 use Rattle.tables.specs.Shapes.{Lawful, Member}
-use Rattle.tables.proofs.Paths.{same-or-not, le-or-lt}
-use Rattle.tables.proofs.Items.{Fine, never, first-accepted, then-accepted, item-fine, item-empty, item-large, items-fine}
+use Rattle.tables.proofs.Items.{Fine, never, item-fine, item-empty, item-large, items-fine}
 use Rattle.tables.proofs.Bridges.{Sized, sized-is, lawful-is, is-lawful, holds-member, not-holds}
 use Rattle.tables.proofs.Build.{twice-none, none-twice}
 
@@ -154,25 +156,20 @@ build-says s e v list {values} z =
     let z₁ : bits ≡ accepted values = past (unequal s e) 2 bits z .1 in
     let z₂ : few ≡ accepted values = past (ltb v 3 || ltb 32 v) 15 few z₁ .1 in
     let z₃ : fine ≡ accepted values = past (ltb (2 ^ 28) (length list)) 4 fine z₂ .1 in
-    let z₄ : growth ≡ accepted values = then-accepted (itemsJudged v 0 list) growth z₃ in
-    let z₅ : twice ≡ accepted values = then-accepted (growthJudged s (buildLg (length list)) v) twice z₄ in
-    let z₆ : last ≡ accepted values = then-accepted (twiceJudged list (length list) 0) last z₅ in
-    let g = can-grow s (buildLg (length list)) v (first-accepted (growthJudged s (buildLg (length list)) v) twice z₄ .1) in
-    let h = first-accepted (twiceJudged list (length list) 0) last z₅ .1 in
+    let f = both-accepted (itemsJudged v 0 list) growth values z₃ in
+    let r = both-accepted (growthJudged s (buildLg (length list)) v) twice values (f .1) in
+    let o = both-accepted (twiceJudged list (length list) 0) last values (r .1) in
+    let g = can-grow s (buildLg (length list)) v (r .0 .1) in
     record {
       equal = eqb-true (length s) (length e) (not-false (eqb (length s) (length e)) (past (unequal s e) 2 bits z .0));
-      bits-most = ltb-false 32 v (neither (ltb v 3) (ltb 32 v) (past (ltb v 3 || ltb 32 v) 15 few z₁ .0));
-      fine = items-fine v 0 list (first-accepted (itemsJudged v 0 list) growth z₃ .1);
+      bits-most = ltb-false 32 v (neither (ltb v 3) (ltb 32 v) (past (ltb v 3 || ltb 32 v) 15 few z₁ .0) .1);
+      fine = items-fine v 0 list (f .0 .1);
       most = g .0;
       below = g .1;
       room = g .2;
-      once = twice-none list (length list) 0 (none-twice list (length list) 0 h);
-      says = z ∙ sym z₆;
+      once = twice-none list (length list) 0 (none-twice list (length list) 0 (o .0 .1));
+      says = z ∙ sym (o .1);
     }
-  where
-    neither : (a b : Bool) → (a || b) ≡ false → b ≡ false
-    neither true b e = absurd (true≢false e)
-    neither false b e = e
 
 -- a new table that is accepted
 pub record NewSays (s e : List ℕ) (lg v : ℕ) : Type 0 where

@@ -1,6 +1,6 @@
 -- A delete may move its hole along in place of searching anew for each item up to the next empty slot. Assumes nothing.
 use mathlib.Core.Path.{_≡_, refl, sym, ap, _∙_, subst}
-use mathlib.Core.Bool.{true, false, true≢false}
+use mathlib.Core.Bool.{false, true≢false}
 use mathlib.Core.Logic.{_⊎_, inl, inr, ⊎-elim}
 use mathlib.Core.List.{List}
 use Prim.Native.Nat.{ℕ, zero, suc, _+_, _-_, _^_, _≤_, _<_}
@@ -9,12 +9,15 @@ use native.Mathlib.Nat.{eq-or-lt-of-le, lt-of-lt-of-le as lt-le}
 use lib.ListN.{length, getD, set, length-set}
 use lib.Seq.{getD-set-same, getD-set-other, set-set, set-getD, set-comm}
 use borrow.Author.Tests.{eq-eqb, ne-eqb, le-leb, lt-leb}
+use Rattle.laws.proofs.Orders.{same-or-not, le-or-lt}
 use Rattle.tables.specs.Slots.{empty, home, next, stops, spot}
 use Rattle.tables.specs.Changes.{place, reseat, remove}
-use Rattle.tables.specs.Shapes.{steps, apart, shifted, Lawful, Removed}
+use Rattle.tables.specs.Shapes.{steps, apart, shifted, Lawful}
 use Rattle.tables.proofs.Laws.{stops-empty, stops-not}
-use Rattle.tables.proofs.Paths.{same-or-not, le-or-lt, steps-add, steps-ahead, steps-behind, steps-lt, steps-inj, Path-to, spot-ends}
-use Rattle.tables.proofs.Delete.{steps-apart, step-on, step-on′, own-path, reseat-done, reseat-go, Mid, start, again, was, full-y, gone, home-y, room, bL, cluster, removed-some}
+use Rattle.tables.proofs.Stepping.{steps-add, steps-ahead, steps-behind, steps-lt, steps-inj, steps-apart, step-on, step-on′}
+use Rattle.tables.proofs.Paths.{Path-to, spot-ends, own-path}
+use Rattle.tables.proofs.Reseating.{reseat-done, reseat-go, Mid, start, again, was, full-y, gone, home-y, room, bL}
+use Rattle.tables.proofs.Delete.{cluster}
 
 -- b is not before a
 pub apart-ahead : (n a b : ℕ) → a ≤ b → apart n a b ≡ b - a
@@ -242,12 +245,6 @@ shift-is o lg v c i l iN full =
 
     first : Only o (set o i empty) (2 ^ lg) i
     first j jn e = ⊎-elim (λ z. inl z) (λ d. inr (sym (getD-set-other o i j empty 0 d) ∙ e)) (same-or-not j i)
-
--- so a delete is one pass
-pub removed-by-shift : (s : List ℕ) (lg v c x q : ℕ) → Lawful s lg v c → (x ≡ empty → ⊥) → q ≡ spot s lg v x → q < 2 ^ lg → getD s q 0 ≡ x
-    → Removed s (shifted (set s q empty) lg v (2 ^ lg) q (next (2 ^ lg) q)) lg v c x true
-removed-by-shift s lg v c x q l xe z qn e =
-    subst (λ (t : List ℕ). Removed s t lg v c x true) (shift-is s lg v c q l qn (λ f. xe (sym e ∙ f))) (removed-some s lg v c x q l xe z qn e)
 
 -- as Changes says it
 pub remove-is : (s : List ℕ) (lg v c x : ℕ) → Lawful s lg v c → (x ≡ empty → ⊥) → spot s lg v x < 2 ^ lg → getD s (spot s lg v x) 0 ≡ x

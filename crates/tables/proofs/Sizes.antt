@@ -57,13 +57,9 @@ least-is (suc more) lg n = go (fits n lg) refl (least-is more (lg + 1) n)
     go true e w = here (leb-true (4 * n) (3 * 2 ^ lg) e)
     go false e w = up (leb-false (4 * n) (3 * 2 ^ lg) e) (leastLg more (lg + 1) n) w
 
--- a build's lg is at least 2 and at most 27
+-- a build's lg is at least 2
 pub build-least : (n : ℕ) → 2 ≤ buildLg n
 build-least n = least-is 25 2 n .from
-
--- and not above 27
-pub build-most : (n : ℕ) → buildLg n ≤ 27
-build-most n = least-is 25 2 n .most
 
 -- where it does not pass 26 the items fit
 pub build-fits : (n : ℕ) → buildLg n ≤ 26 → 4 * n ≤ 3 * 2 ^ buildLg n

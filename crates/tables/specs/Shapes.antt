@@ -106,12 +106,16 @@ AllSmall s n v = (p : ℕ) → p < n → (getD s p 0 ≡ empty → ⊥) → getD
 abbrev pub AllUnder : List ℕ → ℕ → ℕ → Type 0
 AllUnder s n top = (p : ℕ) → p < n → (getD s p 0 ≡ empty → ⊥) → getD s p 0 ≤ top
 
+-- storing the items of o one after the other in t, each of the first r was not there yet
+abbrev pub EachNew : List ℕ → List ℕ → ℕ → ℕ → ℕ → Type 0
+EachNew o t lg v r = (k : ℕ) → k < r → Member (fill o k t lg v) (2 ^ lg) (getD o k 0) → ⊥
+
 -- storing the items of o one after the other in an empty table t, up to the first that is there already: r of them went in
 pub record Built (o t u : List ℕ) (lg v r : ℕ) : Type 0 where
   pub within : r ≤ length o
   pub now-is : u ≡ fill o r t lg v
   pub lawful : Lawful u lg v r
-  pub fresh : (k : ℕ) → k < r → Member (fill o k t lg v) (2 ^ lg) (getD o k 0) → ⊥
+  pub fresh : EachNew o t lg v r
   pub stopped : r < length o → Member u (2 ^ lg) (getD o r 0)
 
 -- what storing a new x in a table that must grow gives: the region t, and what it stands for

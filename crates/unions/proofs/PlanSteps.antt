@@ -1,13 +1,13 @@
 -- What is judged of what is lent, step by step: 1, 17, 2, and what follows. Assumes nothing.
 use mathlib.Core.Path.{_≡_, refl, sym, ap, ap₂, _∙_}
-use mathlib.Core.Bool.{Bool, true, false, not, _||_, true≢false}
+use mathlib.Core.Bool.{Bool, true, false, not, _||_}
 use mathlib.Core.List.{List, []}
 use Prim.Native.Nat.{ℕ, _*_, _^_, _≤_}
 use borrow.Author.Tests.{eqb-true, eq-eqb, ne-eqb, not-false}
 use lib.Dec.{eqb, ltb}
 use lib.ListN.{length}
 use Rattle.laws.specs.Choose.{choose}
-use Rattle.laws.proofs.Truths.{or-right}
+use Rattle.laws.proofs.Truths.{neither, or-right}
 use Rattle.refusals.specs.Outcome.{Outcome, accepted, refused, andThen}
 use Rattle.refusals.specs.Told.{told}
 use Rattle.refusals.specs.declared.Refusal.{Refusal}
@@ -21,10 +21,6 @@ use Rattle.unions.specs.Steps.{shapeJudged, lentJudged}
 
 abbrev bytesOf : ℕ → ℕ → ℕ
 bytesOf from c = choose (hasWindow (2 ^ from) c) (2 ^ from) 0
-
-or-none : (a b : Bool) → (a || b) ≡ false → (a ≡ false) × (b ≡ false)
-or-none true b e = absurd (true≢false e)
-or-none false b e = (refl, e)
 
 -- two chains with the same first refusals
 same-start : (why : Refusal) (a b : Bool) (x : Outcome) → told why ≡ choose a (refused 1 0) (choose b (refused 17 0) (accepted []))
@@ -85,8 +81,8 @@ module _ (lg words from c bytes : ℕ) where
       let a = took (outside from || outside lg) _ 1 0 [] e in
       let b = took (ltb (64 * 2 ^ from) c) _ 17 0 [] (a .1) in
       let d = took wrong _ 2 0 [] (b .1) in
-      let i = or-none (outside from) (outside lg) (a .0) .1 in
-      let w = or-none (not (eqb words (2 ^ lg))) (not (eqb bytes (bytesOf from c))) (d .0) in
+      let i = neither (outside from) (outside lg) (a .0) .1 in
+      let w = neither (not (eqb words (2 ^ lg))) (not (eqb bytes (bytesOf from c))) (d .0) in
       record {
         low = inside-least lg i;
         high = inside-most lg i;

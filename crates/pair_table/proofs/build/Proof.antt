@@ -8,6 +8,7 @@ use Rattle.refusals.specs.Outcome.{Outcome, accepted, andThen}
 use Rattle.tables.specs.Calls.{buildOf}
 use Rattle.pair_table.specs.Told.{toldVerdict}
 use Rattle.pair_table.specs.Steps.{lentJudged, buildOn}
+use Rattle.pair_table.proofs.Judging.{tells}
 use Rattle.pair_table.proofs.StoringLists.{lent-leaves, built-refused, buildable, build-chain, made-as}
 use Rattle.pair_table.proofs.build.Statement.{statement}
 use Rattle.pair_table.proofs.build.Tie as tie
@@ -46,8 +47,9 @@ returns c =
     let s = a .region .now in
     let e = a .spare .now in
     let list = now (a .list) in
+    let j = k .before .before .judge-lent in
     let w = built-refused (buildOf s e (a .valid) list) (lentJudged s e (a .valid) list) (buildOn s (a .valid) list) (a .valid) list s e (k .why .given .0 .0) (build-chain s e (a .valid) list)
-    (sym (ap toldVerdict (k .why .given .1)) ∙ k .before .before .judge-lent .ensures) (lent-leaves s e (a .valid) list) in
+    (tells (j .result) (k .why .given .0 .0) (lentJudged s e (a .valid) list) (k .why .given .1) (j .ensures)) (lent-leaves s e (a .valid) list) in
     (w .says, w .region, w .spare)
 
 same-length-3 : tie.Need-same-length-3

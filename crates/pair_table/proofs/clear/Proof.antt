@@ -1,12 +1,10 @@
 -- `pair_table::clear` meets its contract. Assumes nothing.
-use mathlib.Core.Path.{_≡_, sym, ap, _∙_}
+use mathlib.Core.Path.{_≡_, refl}
 use Prim.Native.Nat.{_-_}
 use denote.Ref.{now}
 use borrow.Author.Needs.{needs}
-use Rattle.refusals.specs.Outcome.{Outcome, andThen}
-use Rattle.refusals.specs.Told.{told}
-use Rattle.tables.specs.Calls.{clearOf, recordOf}
-use Rattle.pair_table.specs.Told.{toldVerdict}
+use Rattle.tables.specs.Calls.{tableJudged, clearOf, recordOf}
+use Rattle.pair_table.proofs.Judging.{judged-refused, judged-passes}
 use Rattle.pair_table.proofs.Called.{table-refused, table-made}
 use Rattle.pair_table.proofs.clear.Statement.{statement}
 use Rattle.pair_table.proofs.clear.Tie as tie
@@ -38,9 +36,13 @@ returns c =
     let k = c .before in
     let a = c .before .before .before .before .before .before .before .before .args in
     let t = a .table in
-    let chain : clearOf (now (a .region)) (now (a .spare)) (t .lg) (t .valid) (t .items) ≡ andThen (told (k .why .given .0 .0)) (recordOf (t .lg) (t .valid) 0) =
-    ap (λ (o : Outcome). andThen o (recordOf (t .lg) (t .valid) 0)) (sym (k .before .before .judge-table .ensures) ∙ ap toldVerdict (k .why .given .1)) in
-    table-refused (clearOf (now (a .region)) (now (a .spare)) (t .lg) (t .valid) (t .items)) (recordOf (t .lg) (t .valid) 0) (now (a .region)) (now (a .spare)) (k .why .given .0 .0) chain
+    let s = now (a .region) in
+    let e = now (a .spare) in
+    let whole = clearOf s e (t .lg) (t .valid) (t .items) in
+    let more = recordOf (t .lg) (t .valid) 0 in
+    let j = k .before .before .judge-table in
+    table-refused whole more s e (k .why .given .0 .0)
+    (judged-refused (j .result) (k .why .given .0 .0) whole (tableJudged s e (t .lg) (t .valid) (t .items)) more (k .why .given .1) (j .ensures) refl)
 
 same-length-3 : tie.Need-same-length-3
 same-length-3 c = search needs
@@ -54,9 +56,13 @@ returns-2 c =
     let k = c .before .before .before .before .before .before .before .before in
     let a = c .before .before .before .before .before .before .before .before .before .before .before .before .before .before .before .args in
     let t = a .table in
-    let is : clearOf (now (a .region)) (now (a .spare)) (t .lg) (t .valid) (t .items) ≡ recordOf (t .lg) (t .valid) 0 =
-    ap (λ (o : Outcome). andThen o (recordOf (t .lg) (t .valid) 0)) (sym (k .before .before .judge-table .ensures) ∙ ap toldVerdict (k .enum-told .given .1)) in
-    table-made (clearOf (now (a .region)) (now (a .spare)) (t .lg) (t .valid) (t .items)) (recordOf (t .lg) (t .valid) 0) (now (a .region)) (now (a .spare)) (t .lg) (t .valid) _ _ is (c .before .before .before .before .before .before .wipe .ensures) (c .before .before .wipe2 .ensures)
+    let s = now (a .region) in
+    let e = now (a .spare) in
+    let whole = clearOf s e (t .lg) (t .valid) (t .items) in
+    let more = recordOf (t .lg) (t .valid) 0 in
+    let j = k .before .before .judge-table in
+    let is : whole ≡ more = judged-passes (j .result) whole (tableJudged s e (t .lg) (t .valid) (t .items)) more (k .enum-told .given .1) (j .ensures) refl in
+    table-made whole more s e (t .lg) (t .valid) _ _ is (c .before .before .before .before .before .before .wipe .ensures) (c .before .before .wipe2 .ensures)
 
 pub clear-spec : {M : Type 1} → statement M
 clear-spec =

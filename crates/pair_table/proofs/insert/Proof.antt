@@ -10,7 +10,7 @@ use Rattle.tables.specs.Changes.{inserted}
 use Rattle.tables.specs.Calls.{tableJudged, itemJudged, insertOf}
 use Rattle.pair_table.specs.Told.{toldVerdict}
 use Rattle.pair_table.specs.Steps.{insertOn}
-use Rattle.pair_table.proofs.Judging.{call-passed}
+use Rattle.pair_table.proofs.Judging.{judged-refused, call-passed}
 use Rattle.pair_table.proofs.Called.{change-refused, change-done, insert-chain}
 use Rattle.pair_table.proofs.insert.Statement.{statement}
 use Rattle.pair_table.proofs.insert.Tie as tie
@@ -54,9 +54,12 @@ returns c =
     let s = now (a .region) in
     let e = now (a .spare) in
     let more = insertOn s (t .lg) (t .valid) (t .items) (a .item) in
-    let chain : insertOf s e (t .lg) (t .valid) (t .items) (a .item) ≡ andThen (told (k .why .given .0 .0)) more =
-    insert-chain s e (t .lg) (t .valid) (t .items) (a .item) ∙ ap (λ (o : Outcome). andThen o more) (sym (k .before .before .judge-call .ensures) ∙ ap toldVerdict (k .why .given .1)) in
-    change-refused (insertOf s e (t .lg) (t .valid) (t .items) (a .item)) more s e (inserted s (t .lg) (t .valid) (t .items) (a .item)) (k .why .given .0 .0) chain
+    let whole = insertOf s e (t .lg) (t .valid) (t .items) (a .item) in
+    let j = k .before .before .judge-call in
+    let chain : whole ≡ andThen (told (k .why .given .0 .0)) more =
+    judged-refused (j .result) (k .why .given .0 .0) whole (andThen (tableJudged s e (t .lg) (t .valid) (t .items)) (itemJudged (t .valid) (a .item) 0)) more (k .why .given .1) (j .ensures)
+    (insert-chain s e (t .lg) (t .valid) (t .items) (a .item)) in
+    change-refused whole more s e (inserted s (t .lg) (t .valid) (t .items) (a .item)) (k .why .given .0 .0) chain
 
 same-length-3 : tie.Need-same-length-3
 same-length-3 c = search needs

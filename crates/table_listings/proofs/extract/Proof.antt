@@ -1,5 +1,5 @@
 -- `table_listings::extract` meets its contract. Assumes nothing.
-use mathlib.Core.Path.{_≡_, ap, _∙_}
+use mathlib.Core.Path.{_≡_, refl, ap, _∙_}
 use mathlib.Core.List.{[], _∷_, _++_}
 use Prim.Native.Nat.{_+_, _-_, _^_}
 use denote.Ref.{now}
@@ -10,6 +10,7 @@ use Rattle.tables.specs.Listings.{extraction}
 use Rattle.tables.specs.Calls.{listOfItems}
 use Rattle.pair_table.specs.Told.{toldVerdict}
 use Rattle.pair_table.specs.declared.Verdict.{Verdict}
+use Rattle.pair_table.proofs.Judging.{judged-refused}
 use Rattle.table_listings.proofs.Listed.{listable, list-refused, list-done}
 use Rattle.table_listings.proofs.extract.Statement.{statement}
 use Rattle.table_listings.proofs.extract.Tie as tie
@@ -46,8 +47,11 @@ returns c =
     let k = c .before in
     let a = c .before .before .before .before .before .before .before .before .args in
     let t = a .table in
-    let chain = k .before .before .judge-room .ensures ∙ ap (λ (r : Verdict). andThen (toldVerdict r) (accepted (t .items ∷ []))) (k .why .given .1) in
-    list-refused (listOfItems (now (a .region)) (now (a .spare)) (t .lg) (t .valid) (t .items) (a .out .now)) (accepted (t .items ∷ []))
+    let j = k .before .before .judge-room in
+    let whole = listOfItems (now (a .region)) (now (a .spare)) (t .lg) (t .valid) (t .items) (a .out .now) in
+    let more = accepted (t .items ∷ []) in
+    let chain = judged-refused (j .result) (k .why .given .0 .0) whole (toldVerdict (j .result)) more (k .why .given .1) refl (j .ensures) in
+    list-refused whole more
     (extraction (take (2 ^ t .lg) (now (a .region))) (t .valid) ++ drop (t .items) (a .out .now)) (a .out .now) (k .why .given .0 .0) chain
 
 same-length-2 : tie.Need-same-length-2

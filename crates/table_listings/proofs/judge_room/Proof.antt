@@ -9,6 +9,7 @@ use borrow.Author.Tests.{lt-ltb, le-ltb}
 use Rattle.refusals.specs.Outcome.{accepted}
 use Rattle.tables.specs.Calls.{tableJudged, listOfItems}
 use Rattle.pair_table.specs.Told.{toldVerdict}
+use Rattle.pair_table.proofs.Judging.{tells}
 use Rattle.table_listings.proofs.Listed.{room-refused}
 use Rattle.table_listings.proofs.judge_room.Statement.{statement}
 use Rattle.table_listings.proofs.judge_room.Tie as tie
@@ -43,7 +44,9 @@ returns-2 c =
     let k = c .before in
     let a = c .before .before .before .before .before .before .before .args in
     let t = a .table in
-    room-refused (now (a .region)) (now (a .spare)) (t .lg) (t .valid) (t .items) (now (a .out)) (k .why .given .0 .0) (sym (ap toldVerdict (k .why .given .1)) ∙ k .before .before .judge .ensures)
+    let j = k .before .before .judge in
+    room-refused (now (a .region)) (now (a .spare)) (t .lg) (t .valid) (t .items) (now (a .out)) (k .why .given .0 .0)
+    (tells (j .result) (k .why .given .0 .0) (tableJudged (now (a .region)) (now (a .spare)) (t .lg) (t .valid) (t .items)) (k .why .given .1) (j .ensures))
 
 returns-3 : tie.Need-returns-3
 unfolding listOfItems

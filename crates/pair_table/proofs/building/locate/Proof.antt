@@ -1,5 +1,4 @@
 -- `pair_table::building::locate` meets its contract. Assumes nothing.
-use mathlib.Core.Path.{sym, _∙_}
 use native.Mathlib.Omega.{arith}
 use borrow.Author.Needs.{needs}
 use Rattle.tables.specs.Slots.{spot}
@@ -25,8 +24,8 @@ returns c =
     let h = c .before .before .before .before .home-of in
     let d = c .before .before .before .dist in
     let a = z .before .before in (
-      (rw (z .size .ensures) at (c .seek .ensures .0)) ∙ sym (resume (a .args .slots .now) (a .args .lg) (a .args .v) _ (a .args .item) (a .args .p) (a .args .len) (a .args .top) (d .result) (a .pre .0) (a .pre .1 .0) (a .pre .1 .1) (a .pre .1 .3)
-          (rw (h .ensures .0, z .size .ensures) at (d .ensures .1)) (c .before .before .if1 .taken) (c .before .if2 .taken)),
+      resume (a .args .slots .now) (a .args .lg) (a .args .v) _ (a .args .item) (a .args .p) (a .args .len) (a .args .top) (d .result) (a .pre .0) (a .pre .1 .0) (a .pre .1 .1) (a .pre .1 .3)
+          (rw (h .ensures .0, z .size .ensures) at (d .ensures .1)) (c .before .before .if1 .taken) (c .before .if2 .taken) (c .seek .result) (rw (z .size .ensures) at (c .seek .ensures .0)),
       omega (arith, c .seek .ensures .1, z .size .ensures),
     )
 

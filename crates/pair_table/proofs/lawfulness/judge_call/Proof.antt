@@ -1,14 +1,15 @@
 -- `pair_table::lawfulness::judge_call` meets its contract. Assumes nothing.
-use mathlib.Core.Path.{_≡_, sym, ap, _∙_}
+use mathlib.Core.Path.{_≡_, refl, sym, ap, _∙_}
 use mathlib.Core.List.{[]}
 use Prim.Native.Nat.{_-_}
 use denote.Ref.{now}
 use borrow.Author.Needs.{needs}
 use Rattle.refusals.specs.Outcome.{Outcome, accepted, andThen}
+use Rattle.refusals.proofs.Refusing.{stays}
 use Rattle.tables.specs.Calls.{tableJudged, itemJudged}
 use Rattle.tables.proofs.Says.{judged-is}
 use Rattle.pair_table.specs.Told.{toldVerdict}
-use Rattle.pair_table.proofs.Judging.{ends-both}
+use Rattle.pair_table.proofs.Judging.{judged-refused}
 use Rattle.pair_table.proofs.lawfulness.judge_call.Statement.{statement}
 use Rattle.pair_table.proofs.lawfulness.judge_call.Tie as tie
 
@@ -33,7 +34,10 @@ returns : tie.Need-returns
 returns c =
     let k = c .before in
     let a = c .before .before .before .before .before .before .args in
-    sym (ap (λ (o : Outcome). andThen o (itemJudged (a .v) (a .item) 0)) (sym (sym (ap toldVerdict (k .why .given .1)) ∙ k .before .before .judge-table .ensures)) ∙ ends-both (k .why .given .0 .0) (itemJudged (a .v) (a .item) 0))
+    let first = tableJudged (now (a .slots)) (now (a .spare)) (a .lg) (a .v) (a .c) in
+    let more = itemJudged (a .v) (a .item) 0 in
+    let j = k .before .before .judge-table in
+    sym (judged-refused (j .result) (k .why .given .0 .0) (andThen first more) first more (k .why .given .1) (j .ensures) refl ∙ stays (k .why .given .0 .0) more)
 
 returns-2 : tie.Need-returns-2
 returns-2 c =

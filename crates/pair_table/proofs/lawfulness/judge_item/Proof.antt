@@ -3,9 +3,9 @@ use mathlib.Core.Logic.{⊎-elim}
 use Prim.Native.Nat.{ℕ, _-_, _^_, _≤_, _<_}
 use borrow.Author.Needs.{needs}
 use borrow.Author.Tests.{not-true, not-false, eq-eqb, ne-eqb, le-leb, lt-leb}
+use Rattle.laws.proofs.Orders.{le-or-lt}
 use Rattle.tables.specs.Calls.{itemJudged}
 use Rattle.tables.specs.Slots.{empty}
-use Rattle.tables.proofs.Paths.{le-or-lt}
 use Rattle.pair_table.proofs.lawfulness.judge_item.Statement.{statement}
 use Rattle.pair_table.proofs.lawfulness.judge_item.Tie as tie
 
