@@ -1,6 +1,6 @@
 -- The set that a read sketch stands for, and which sketches are lawful. A source is its coupons c, its window and its list of pairs, at k rows; flavor and offset come
 -- from its stated coupons. Assumes nothing.
-use Prim.Native.Nat.{ℕ, zero, suc, _+_, _-_, _*_, _%_, _^_}
+use Prim.Native.Nat.{ℕ, suc, _+_, _-_, _*_, _%_, _^_}
 use mathlib.Core.Bool.{Bool, not, _&&_, _||_}
 use mathlib.Core.List.{List, [], _∷_}
 use lib.Dec.{eqb, leb, ltb}
