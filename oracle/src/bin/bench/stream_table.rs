@@ -16,7 +16,6 @@ use crate::plain_reading::streams::bits_of_pairs;
 use crate::random::Random;
 use crate::ratios::Ratios;
 use crate::ratios::Row;
-use crate::ratios::share;
 use crate::ratios::sized;
 use crate::timing::Runs;
 
@@ -178,8 +177,7 @@ impl<'a> Tried<'a> {
 
     fn row(&self, what: &str, times: (f64, f64), fixed: f64, bar: f64) -> Row {
         let bar = (self.count() >= LEAST_WITH_BAR).then_some(bar);
-        let note = format!("fixed cost: {}", share(fixed, times.0));
-        Row::beside(what, self.size(), times).bar(bar).note(note)
+        Row::beside(what, self.size(), times).fixed(fixed).bar(bar)
     }
 
     /// The call with no pairs. The Rust has none: it divides by zero, or does nothing.
