@@ -1,5 +1,7 @@
 // Books: the check of a book, the check of a book with a lent decoding table, the fill of a decoding table, and the pick of a window book by phase.
 // In place of src/cpc/compression_data.rs of the Rust crate datasketches 0.5.0, whose fixed tables come as book files here.
+#![tactic(auto)]
+
 ghost use Rattle.std.specs.Prelude.{◌≡◌, not, ◌&&◌, ◌||◌, [], ◌≤◌, eqb, length};
 ghost use Rattle.laws.specs.Choose.{choose};
 ghost use Rattle.refusals.specs.Outcome.{accepted, refused};

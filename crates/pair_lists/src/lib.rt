@@ -1,6 +1,8 @@
 // A list of pairs: is every pair lawful, and above the one before?
 // After the asserts on pairs of src/cpc/compression.rs and src/cpc/pair_table.rs of the Rust crate datasketches 0.5.0 (Apache-2.0); changed: each call is
 // total and refuses by number.
+#![tactic(auto)]
+
 ghost use Rattle.std.specs.Prelude.{◌≡◌, true, [], ◌<◌, length};
 ghost use Rattle.refusals.specs.Outcome.{accepted};
 ghost use Rattle.pair_lists.specs.Lists.{pairs_judged, judge_pairs_of};

@@ -2,10 +2,10 @@
 ghost use Rattle.std.specs.Prelude.{◌≡◌};
 ghost use Rattle.refusals.specs.Units.{words_for, bits_in};
 
-#[derive(Drop)]
+#[derive(Clone, Copy)]
 pub struct Bits(pub u64);
 
-#[derive(Drop)]
+#[derive(Clone, Copy)]
 pub struct Words(pub u64);
 
 // The words that a stream of so many bits fills, the last one with zeros.

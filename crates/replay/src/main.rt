@@ -1,4 +1,5 @@
 // Replays the stored cases of data/: makes each call on its stored input, and compares what comes out with what is stored. The crate stored_cases says how a case is written.
+#![tactic(auto)]
 mod calls;
 mod files;
 

@@ -1,4 +1,5 @@
 // The small program: standard input is read to its end, part by part, and what is decided of the whole is written line by line. All judging is `reporting`'s.
+#![tactic(auto)]
 use libc::{STDIN_FILENO, STDOUT_FILENO};
 use refusals::Refusal;
 use reporting::{Decision, LineAnswer, Progress};

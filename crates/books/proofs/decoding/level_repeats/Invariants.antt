@@ -1,0 +1,14 @@
+-- `books::decoding::level_repeats`: what its loops keep true, and why they end. Assumes nothing.
+use native.Mathlib.Omega.{arith}
+use mathlib.Core.Path.{refl}
+use Prim.Native.Nat.{◌-◌}
+use lib.Dec.{eqb}
+use Rattle.books.proofs.Repeating.{Counted, counted_start, counted_turn, counted_end}
+use borrow.Author.Rules.{rules}
+use Rattle.books.proofs.decoding.level_repeats.Given as goal
+
+abbrev pub invariant-loop-m : goal.invariant-loop-m
+invariant-loop-m l = Counted l.table l.half l.limit l.count l.m
+
+abbrev pub decreases-loop-m : goal.decreases-loop-m
+decreases-loop-m l = l.half - l.m

@@ -1,0 +1,15 @@
+-- `books::marks::spread`: what its loops keep true, and why they end. Assumes nothing.
+use native.Mathlib.Omega.{arith}
+use mathlib.Core.Path.{◌≡◌, refl, sym, ◌∙◌}
+use Prim.Native.Nat.{◌-◌, ◌^◌, ◌≤◌}
+use lib.ListN.{length}
+use Rattle.laws.proofs.Powers.{half_most, twice_half}
+use Rattle.books.proofs.Spreading.{Spreading, spreading_start, spreading_turn, spreading_end}
+use borrow.Author.Rules.{rules}
+use Rattle.books.proofs.marks.spread.Given as goal
+
+abbrev pub invariant-loop-d : goal.invariant-loop-d
+invariant-loop-d l = (l.d ≤ 6) × (l.half ≡ 2 ^ l.d) × (length l.marks ≡ 128) × Spreading l.initial.marks l.marks l.d
+
+abbrev pub decreases-loop-d : goal.decreases-loop-d
+decreases-loop-d l = 6 - l.d

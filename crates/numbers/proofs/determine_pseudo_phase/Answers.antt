@@ -1,0 +1,17 @@
+-- `numbers::determine_pseudo_phase` meets its contract. Assumes nothing.
+use native.Mathlib.Omega.{arith}
+use borrow.Author.Rules.{rules}
+use Rattle.numbers.specs.Calls.{phase_of}
+use Rattle.numbers.proofs.RowsTold.{RowsAt, matched_rows, matched_refused}
+use Rattle.numbers.proofs.determine_pseudo_phase.Goals as goal
+
+pub phase_at-requires : goal.phase_at-requires
+phase_at-requires c = omega (arith, (let k_at : RowsAt c.args.lg c.in-Rows.k = matched_rows c.rows.ensures c.in-Rows.is in k_at))
+
+pub returns-in-Refused : goal.returns-in-Refused
+unfolding phase_of
+returns-in-Refused c = matched_refused _ c.rows.ensures c.in-Refused.is _
+
+pub returns-in-Rows : goal.returns-in-Rows
+unfolding phase_of
+returns-in-Rows c = let at = (let k_at : RowsAt c.args.lg c.in-Rows.k = matched_rows c.rows.ensures c.in-Rows.is in k_at) in simp (at.inside, c.phase_at.ensures, at.power)

@@ -1,0 +1,17 @@
+-- `numbers::number_of_base_bits` meets its contract. Assumes nothing.
+use native.Mathlib.Omega.{arith}
+use borrow.Author.Rules.{rules}
+use Rattle.numbers.specs.Calls.{base_bits_of}
+use Rattle.numbers.proofs.RowsTold.{RowsAt, matched_rows, matched_refused}
+use Rattle.numbers.proofs.number_of_base_bits.Goals as goal
+
+pub base_bits_at-requires : goal.base_bits_at-requires
+base_bits_at-requires c = omega (arith, (let k_at : RowsAt c.args.lg c.in-Rows.k = matched_rows c.rows.ensures c.in-Rows.is in k_at))
+
+pub returns-in-Refused : goal.returns-in-Refused
+unfolding base_bits_of
+returns-in-Refused c = matched_refused _ c.rows.ensures c.in-Refused.is _
+
+pub returns-in-Rows : goal.returns-in-Rows
+unfolding base_bits_of
+returns-in-Rows c = let at = (let k_at : RowsAt c.args.lg c.in-Rows.k = matched_rows c.rows.ensures c.in-Rows.is in k_at) in simp (at.inside, c.base_bits_at.ensures.0, at.power)

@@ -1,0 +1,16 @@
+-- `pair_lists::all_rise` meets its contract. Assumes nothing.
+use borrow.Author.Rules.{rules}
+use native.Mathlib.Omega.{arith}
+use Prim.Native.Nat.{◌-◌}
+use lib.ListN.{length}
+use Rattle.pair_lists.proofs.RisingPairs.{Rising, rising_start, rising_turn, rising_end}
+use Rattle.pair_lists.proofs.all_rise.Goals as goal
+
+pub loop-i-init : goal.loop-i-init
+loop-i-init c = rising_start _
+
+pub loop-i-preserved : goal.loop-i-preserved
+loop-i-preserved c = rising_turn _ c.loop-i.rises c.still_rises-rises.result c.loop-i.i c.loop-i.invariant c.still_rises-rises.ensures
+
+pub returns : goal.returns
+returns c = rising_end _ c.loop-i.rises c.loop-i.i c.loop-i.invariant (omega arith)
