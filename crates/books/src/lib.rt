@@ -17,13 +17,13 @@ mod shapes;
 use refusals::Refusal;
 use shapes::Shapes;
 
-#[derive(Drop)]
+#[derive(Clone, Copy)]
 pub enum CheckAnswer {
     Passes,
     Refused(Refusal),
 }
 
-#[derive(Drop)]
+#[derive(Clone, Copy)]
 pub enum PickAnswer {
     // where the phase's book starts in the set
     At(usize),

@@ -25,7 +25,7 @@ fn is_shaped(entry: usize) -> bool
     entry % 4096 < 1usize << length
 }
 
-#[derive(Drop)]
+#[derive(Clone, Copy)]
 pub enum Shapes {
     // the first symbol of wrong shape
     Misshapen(usize),

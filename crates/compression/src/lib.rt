@@ -23,14 +23,14 @@ use pair_reader::Sizes;
 use refusals::Refusal;
 use refusals::units::{Bits, Words};
 
-#[derive(Drop)]
+#[derive(Clone, Copy)]
 pub enum WriteAnswer {
     // the bits with pad, before the last word is filled, and the words
     Written(Bits, Words),
     Refused(Refusal),
 }
 
-#[derive(Drop)]
+#[derive(Clone, Copy)]
 pub enum ReadAnswer {
     Read,
     // 6 to 10 sit in `Refusal::Reading`, with the item's index and the bit position

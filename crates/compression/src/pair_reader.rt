@@ -15,7 +15,7 @@ use books::CheckAnswer;
 use numbers::{NumberAnswer, RowsAnswer};
 use refusals::{Reason, Refusal};
 
-#[derive(Drop)]
+#[derive(Clone, Copy)]
 pub struct State {
     // the row of the pair before
     pub row: u64,
@@ -24,14 +24,14 @@ pub struct State {
     pub cursor: Cursor,
 }
 
-#[derive(Drop)]
+#[derive(Clone, Copy)]
 pub enum Stepped {
     // the pair, and the state after it
     Next(u32, State),
     Stops(Reason),
 }
 
-#[derive(Drop)]
+#[derive(Clone, Copy)]
 pub enum Sizes {
     // k, and the base bits
     Of(u64, u8),

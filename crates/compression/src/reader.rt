@@ -9,26 +9,26 @@ ghost use Rattle.compression.specs.Reading.{Stands, place_of, FilledBy, SeenBy, 
 
 use super::common::{index, wide_byte, wide_entry};
 
-#[derive(Drop)]
+#[derive(Clone, Copy)]
 pub struct Cursor {
     pub buffer: u64,
     pub held: u32,
     pub next: usize,
 }
 
-#[derive(Drop)]
+#[derive(Clone, Copy)]
 pub enum Filled {
     Ready(Cursor),
     Ends,
 }
 
-#[derive(Drop)]
+#[derive(Clone, Copy)]
 pub enum Seen {
     Bits(u64, Cursor),
     Ends,
 }
 
-#[derive(Drop)]
+#[derive(Clone, Copy)]
 pub enum Taken {
     Value(u64, Cursor),
     // the first bit of the look that failed

@@ -8,7 +8,7 @@ use super::common::{index, low_bits, wide_entry};
 use super::reader;
 use super::reader::{Cursor, Taken};
 
-#[derive(Drop)]
+#[derive(Clone, Copy)]
 pub enum Steps {
     // the column step, the row step, and the cursor after both
     Taken(u64, u64, Cursor),

@@ -7,7 +7,7 @@ ghost use Rattle.compression.specs.Writing.{four_bytes, Lawful, bits_put, PutBy,
 use super::WriteAnswer;
 use refusals::units::{Bits, words_for};
 
-#[derive(Drop)]
+#[derive(Clone, Copy)]
 pub struct Writer {
     // bits that are put and not yet written, fewer than a word's
     pub buffer: u64,

@@ -10,7 +10,7 @@ mod formulas;
 use refusals::Refusal;
 use refusals::units::{Bits, Words, words_for};
 
-#[derive(Drop)]
+#[derive(Clone, Copy)]
 pub enum Flavor {
     Empty,
     Sparse,
@@ -19,25 +19,25 @@ pub enum Flavor {
     Sliding,
 }
 
-#[derive(Drop)]
+#[derive(Clone, Copy)]
 pub enum FlavorAnswer {
     Flavored(Flavor),
     Refused(Refusal),
 }
 
-#[derive(Drop)]
+#[derive(Clone, Copy)]
 pub enum NumberAnswer {
     Given(u8),
     Refused(Refusal),
 }
 
-#[derive(Drop)]
+#[derive(Clone, Copy)]
 pub enum RowsAnswer {
     Rows(u64),
     Refused(Refusal),
 }
 
-#[derive(Drop)]
+#[derive(Clone, Copy)]
 pub enum MostAnswer {
     AtMost(Bits, Words),
     Refused(Refusal),

@@ -12,7 +12,7 @@ ghost use Rattle.pair_lists.specs.Told.{told_pairs};
 use numbers::{RowsAnswer, rows};
 use refusals::Refusal;
 
-#[derive(Drop)]
+#[derive(Clone, Copy)]
 pub enum PairsAnswer {
     Lawful,
     Refused(Refusal),

@@ -113,7 +113,7 @@ fn later(a: usize, b: usize) -> usize
 }
 
 // How many items of a list are stored, and a number that all of them are below.
-#[derive(Drop)]
+#[derive(Clone, Copy)]
 struct Risen {
     count: usize,
     least: u32,

@@ -50,7 +50,7 @@ pub fn larger(a: u32, b: u32) -> u32
 }
 
 // Items that stand in a row before some slot: how many, and a number that none is above.
-#[derive(Drop)]
+#[derive(Clone, Copy)]
 struct Run {
     len: usize,
     top: u32,

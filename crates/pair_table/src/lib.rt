@@ -19,7 +19,7 @@ use refusals::Refusal;
 pub const EMPTY: u32 = 0xFFFF_FFFF;
 
 // What a table is besides its slots.
-#[derive(Drop)]
+#[derive(Clone, Copy)]
 pub struct PairTable {
     // there are 2^lg slots
     pub lg: u8,
@@ -28,14 +28,14 @@ pub struct PairTable {
     pub items: u32,
 }
 
-#[derive(Drop)]
+#[derive(Clone, Copy)]
 pub enum TableAnswer {
     Made(PairTable),
     Refused(Refusal),
 }
 
 // What an insert or a delete answers: true with the new record, or false.
-#[derive(Drop)]
+#[derive(Clone, Copy)]
 pub enum ChangeAnswer {
     Changed(PairTable),
     Unchanged,
@@ -43,7 +43,7 @@ pub enum ChangeAnswer {
 }
 
 // What the judging of a lent table says.
-#[derive(Drop)]
+#[derive(Clone, Copy)]
 pub enum Verdict {
     Passes,
     Refused(Refusal),

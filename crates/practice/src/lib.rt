@@ -1,5 +1,6 @@
 // The practice books, until book files arrive, and the practice decoding table for pairs. The window's is filled from its book.
 #![tactic(auto)]
+
 ghost use Rattle.std.specs.Prelude.{◌≡◌};
 ghost use Rattle.books.specs.Table.{table_of};
 ghost use Rattle.practice.specs.Practice.{pair_book, window_book};

@@ -8,7 +8,7 @@ pub mod units;
 
 // Why a reader stopped: 6 to 9, and its own 10. `place` is the index of the pair or byte, `bit` a position in the stream: of 6 the first bit of the look
 // that failed, else the bit after the pair.
-#[derive(Drop)]
+#[derive(Clone, Copy)]
 pub enum Reason {
     // 6: the stream ends inside a read
     StreamEnds { place: u64, bit: u64 },
@@ -22,7 +22,7 @@ pub enum Reason {
     Reserved { place: u64, bit: u64 },
 }
 
-#[derive(Drop)]
+#[derive(Clone, Copy)]
 pub enum Refusal {
     // 1: an lg_k outside 4..26
     LgOutside,
@@ -57,7 +57,7 @@ pub enum Refusal {
 }
 
 // A refusal in document 01's numbers: its number, its place and its bit position.
-#[derive(Drop)]
+#[derive(Clone, Copy)]
 pub struct Numbered(pub u32, pub u64, pub u64);
 
 // The one place where a refusal becomes numbers: 0 for a place or a bit that it does not carry.

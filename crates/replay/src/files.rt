@@ -5,7 +5,7 @@ use stored_cases::lists::Filled;
 use stored_cases::verdicts::Verdict;
 use stored_cases::{lists_u8, verdicts, words};
 
-#[derive(Drop)]
+#[derive(Clone, Copy)]
 struct Tally {
     ran: u64,
     agreed: u64,

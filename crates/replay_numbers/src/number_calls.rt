@@ -5,7 +5,7 @@ use stored_cases::words::{NumberU8, NumberU32};
 use stored_cases::{answers, words};
 
 // The inputs of a call on an lg_k and a count of coupons or of pairs.
-#[derive(Drop)]
+#[derive(Clone, Copy)]
 enum Inputs {
     Are(u8, u32),
     No,

@@ -89,7 +89,7 @@ fn write_window(line: &[u8]) -> Verdict {
 }
 
 // A book in word 1 and a decoding table in word 2, into two buffers: how many entries each has.
-#[derive(Drop)]
+#[derive(Clone, Copy)]
 enum Coded {
     Has(usize, usize),
     No,

@@ -7,7 +7,7 @@ use stored_cases::words::{NumberU8, NumberU32};
 use stored_cases::{answers, lists_u32, verdicts, words};
 
 // The record of a table.
-#[derive(Drop)]
+#[derive(Clone, Copy)]
 enum Record {
     Is { lg: u8, valid: u8, items: u32 },
     No,
@@ -27,7 +27,7 @@ fn read_record(line: &[u8]) -> Record {
 }
 
 // A region and a spare, each in its buffer: how many slots each has.
-#[derive(Drop)]
+#[derive(Clone, Copy)]
 enum Slots {
     Are(usize, usize),
     No,

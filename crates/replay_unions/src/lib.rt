@@ -8,7 +8,7 @@ use stored_cases::words::{Number, NumberU8, NumberU32};
 use stored_cases::{answers, lists, lists_u8, lists_u32, lists_u64, verdicts, words};
 
 // A window and pairs, each in its buffer: how many bytes and how many pairs.
-#[derive(Drop)]
+#[derive(Clone, Copy)]
 enum Parts {
     Are(usize, usize),
     No,
@@ -136,7 +136,7 @@ fn new_union(line: &[u8]) -> Verdict {
 }
 
 // The record of a union.
-#[derive(Drop)]
+#[derive(Clone, Copy)]
 enum Union {
     Is { lg: u8, present: u8, seed: u64 },
     No,
@@ -156,7 +156,7 @@ fn read_union(line: &[u8]) -> Union {
 }
 
 // The record of a source.
-#[derive(Drop)]
+#[derive(Clone, Copy)]
 enum Sketch {
     Is { from: u8, other: u64, coupons: u32 },
     No,

@@ -4,7 +4,7 @@ use libc::{STDIN_FILENO, STDOUT_FILENO};
 use refusals::Refusal;
 use reporting::{Decision, LineAnswer, Progress};
 
-#[derive(Drop)]
+#[derive(Clone, Copy)]
 enum Got {
     Part(Progress),
     End,

@@ -15,14 +15,14 @@ use refusals::Refusal;
 use refusals::units::{Bits, Words};
 
 // The digits of a decimal so far.
-#[derive(Drop)]
+#[derive(Clone, Copy)]
 pub struct Digits {
     pub begun: bool,
     pub sofar: u32,
 }
 
 // What the next byte of a line belongs to.
-#[derive(Drop)]
+#[derive(Clone, Copy)]
 pub enum Field {
     // the name, of which so many letters stand; of a line without an index with the equals sign
     Name(u64),
@@ -32,7 +32,7 @@ pub enum Field {
 }
 
 // A text of which so many lines are read whole; lg_k and the number of pairs once their lines are.
-#[derive(Drop)]
+#[derive(Clone, Copy)]
 pub struct Reading {
     pub lines: u64,
     pub lg: u8,
@@ -40,14 +40,14 @@ pub struct Reading {
     pub field: Field,
 }
 
-#[derive(Drop)]
+#[derive(Clone, Copy)]
 pub enum Progress {
     Reading(Reading),
     Refused(Refusal),
 }
 
 // The numbers of a list that was written, which are also its lines.
-#[derive(Drop)]
+#[derive(Clone, Copy)]
 pub struct Report {
     pub lg: u8,
     pub count: u32,
@@ -58,13 +58,13 @@ pub struct Report {
     pub words: Words,
 }
 
-#[derive(Drop)]
+#[derive(Clone, Copy)]
 pub enum Decision {
     Written(Report),
     Refused(Refusal),
 }
 
-#[derive(Drop)]
+#[derive(Clone, Copy)]
 pub enum LineAnswer {
     // its length
     Line(u64),

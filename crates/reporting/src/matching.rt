@@ -5,7 +5,7 @@ ghost use Rattle.reporting.specs.Machine.{lettered, named, letter_move, after_na
 use crate::{Digits, Field};
 
 // Where a byte leaves a line.
-#[derive(Drop)]
+#[derive(Clone, Copy)]
 pub enum Move {
     // inside the line: the next byte belongs to this
     To(Field),
@@ -14,13 +14,13 @@ pub enum Move {
     Wrong,
 }
 
-#[derive(Drop)]
+#[derive(Clone, Copy)]
 pub enum Longer {
     Are(Digits),
     No,
 }
 
-#[derive(Drop)]
+#[derive(Clone, Copy)]
 pub enum Letter {
     // the last one of its name
     Last,

@@ -2,7 +2,7 @@
 use super::words;
 use super::words::Number;
 
-#[derive(Drop)]
+#[derive(Clone, Copy)]
 pub enum Item {
     // VxN: V, N times; V alone is Vx1, and _N is the empty slot N times
     Times { value: u64, times: u64 },
@@ -19,7 +19,7 @@ pub enum Item {
     No,
 }
 
-#[derive(Drop)]
+#[derive(Clone, Copy)]
 enum Halves {
     Are(u64, u64),
     No,

@@ -2,7 +2,7 @@
 use super::{items, runs, words};
 
 // How many places of a buffer are filled. `No`: what is no item, or more than the buffer holds.
-#[derive(Drop)]
+#[derive(Clone, Copy)]
 pub enum Filled {
     To(usize),
     No,

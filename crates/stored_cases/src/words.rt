@@ -1,19 +1,19 @@
 // The words of a line, and the numbers that they stand for.
 ghost use Rattle.std.specs.Prelude.{◌≤◌, length};
 
-#[derive(Drop)]
+#[derive(Clone, Copy)]
 pub enum Number {
     Is(u64),
     No,
 }
 
-#[derive(Drop)]
+#[derive(Clone, Copy)]
 pub enum NumberU32 {
     Is(u32),
     No,
 }
 
-#[derive(Drop)]
+#[derive(Clone, Copy)]
 pub enum NumberU8 {
     Is(u8),
     No,

@@ -9,7 +9,7 @@ use super::size;
 use pair_table::EMPTY;
 
 // Where the writing stands: the next slot to read, the next place from the front, the first place taken at the end.
-#[derive(Drop)]
+#[derive(Clone, Copy)]
 struct Cut {
     slot: usize,
     fore: usize,

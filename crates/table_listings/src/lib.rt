@@ -14,7 +14,7 @@ mod walking;
 use pair_table::{PairTable, Verdict};
 use refusals::Refusal;
 
-#[derive(Drop)]
+#[derive(Clone, Copy)]
 pub enum ListAnswer {
     // how many items stand at the front of the output
     Listed(u32),

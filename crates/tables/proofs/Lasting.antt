@@ -31,6 +31,7 @@ insert_lasts s e lg v c x long l (accepted _) (kept w new f) =
     is_judged (inserted s lg v c x) (blank e) lg v (c + 1) (length_inserted s lg v c x l w new ∙ long ∙ sym (length_blank e)) (kept_lawful s lg v c x l w new f)
 insert_lasts s e lg v c x long l (accepted _) (grown w new f a b d) =
     is_judged (inserted s lg v c x) (blank e) (lg + 1) v (c + 1) (length_inserted s lg v c x l w new ∙ long ∙ sym (length_blank e)) (grown_lawful s lg v c x l w new f a b d)
+insert_lasts s e lg v c x long l (Rattle.refusals.specs.Outcome.stopped number place bit) x'' = elim x'' [ ]
 
 -- a delete
 delete_lasts : (s e : List ℕ) (lg v c x : ℕ) → length s ≡ length e → Lawful s lg v c → (o : Outcome) → DeleteSays s lg v c x o
@@ -39,6 +40,7 @@ delete_lasts s e lg v c x long l (refused number place) refuses = is_judged s e 
 delete_lasts s e lg v c x long l (accepted _) (missing w m) = is_judged s e lg v c long l
 delete_lasts s e lg v c x long l (accepted _) (taken w m) =
     is_judged (deleted s lg v c x) (blank e) (halved_lg lg lg (c - 1)) v (c - 1) (length_deleted s lg v c x l w m ∙ long ∙ sym (length_blank e)) (deleted_lawful s lg v c x l w m)
+delete_lasts s e lg v c x long l (Rattle.refusals.specs.Outcome.stopped number place bit) x'' = elim x'' [ ]
 
 -- a clear
 pub clear_is : (s e : List ℕ) (lg v c : ℕ) → length s ≡ length e → Lawful s lg v c → clear_of s e lg v c ≡ record_of lg v 0

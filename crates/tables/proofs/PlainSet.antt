@@ -67,6 +67,7 @@ insert_plain s lg v c x l (accepted _) (there w m) a =
 insert_plain s lg v c x l (accepted _) (kept w new f) a = (sym (ap not (not_in s (2 ^ lg) x new)), added_set s (2 ^ lg) (inserted s lg v c x) (2 ^ lg) x (kept_set s lg v c x l w new f))
 insert_plain s lg v c x l (accepted _) (grown w new f p q r) a =
     (sym (ap not (not_in s (2 ^ lg) x new)), added_set s (2 ^ lg) (inserted s lg v c x) (2 ^ (lg + 1)) x (grown_set s lg v c x l w new f p q r))
+insert_plain s lg v c x l (Rattle.refusals.specs.Outcome.stopped number place bit) x3 a = elim x3 [ ]
 
 delete_plain : (s : List ℕ) (lg v c x : ℕ) → Lawful s lg v c → (o : Outcome) → DeleteSays s lg v c x o → is_accepted o ≡ true
     → (eqb (get_or (values_in o) 0 0) 1 ≡ is_in s (2 ^ lg) x) × ((y : ℕ) → is_in (if_changed o (deleted s lg v c x) s) (2 ^ get_or (values_in o) 1 lg) y ≡ (not (eqb y x) && is_in s (2 ^ lg) y))
@@ -75,6 +76,7 @@ delete_plain s lg v c x l (accepted _) (missing w new) a =
     (sym (not_in s (2 ^ lg) x new), taken_set s (2 ^ lg) s (2 ^ lg) x (record { gone = new; keeps = λ y m d. m; only = λ y m. m }))
 delete_plain s lg v c x l (accepted _) (taken w m) a =
     (sym (member_in s (2 ^ lg) x m), taken_set s (2 ^ lg) (deleted s lg v c x) (2 ^ halved_lg lg lg (c - 1)) x (deleted_set s lg v c x l w m))
+delete_plain s lg v c x l (Rattle.refusals.specs.Outcome.stopped number place bit) x3 a = elim x3 [ ]
 
 clear_plain : (s : List ℕ) (lg v c : ℕ) → Lawful s lg v c → (o : Outcome) → o ≡ record_of lg v 0 → (y : ℕ) → is_in (if_accepted o (blank s) s) (2 ^ get_or (values_in o) 0 lg) y ≡ false
 clear_plain s lg v c l o z y = rw z (blank_set s (2 ^ lg) y l.room)
@@ -109,11 +111,13 @@ insert_bits s lg v c x (refused number place) refuses = refl
 insert_bits s lg v c x (accepted _) (there w m) = refl
 insert_bits s lg v c x (accepted _) (kept w new f) = refl
 insert_bits s lg v c x (accepted _) (grown w new f p q r) = refl
+insert_bits s lg v c x (Rattle.refusals.specs.Outcome.stopped number place bit) x'' = elim x'' [ ]
 
 delete_bits : (s : List ℕ) (lg v c x : ℕ) (o : Outcome) → DeleteSays s lg v c x o → get_or (values_in o) 2 v ≡ v
 delete_bits s lg v c x (refused number place) refuses = refl
 delete_bits s lg v c x (accepted _) (missing w m) = refl
 delete_bits s lg v c x (accepted _) (taken w m) = refl
+delete_bits s lg v c x (Rattle.refusals.specs.Outcome.stopped number place bit) x'' = elim x'' [ ]
 
 -- whatever is called
 pub bits_stay : (t : Table) (call : Call) → judged t ≡ accepted [] → (after t call).bits ≡ t.bits

@@ -79,6 +79,8 @@ can_grow s lg v {values} e = go (growth_judged s lg v) (growth_says s lg v) e
     go : (o : Outcome) → GrowthSays s lg v o → o ≡ accepted values → (lg ≤ 26) × (lg < v) × (2 ^ lg ≤ length s)
     go (refused number place) cannot z = absurd (never z)
     go (accepted []) (can a b d) z = (a, b, d)
+    go (accepted (_ ∷ _)) x7 z = elim x7 [ ]
+    go (Rattle.refusals.specs.Outcome.stopped number place bit) x3 z = elim x3 [ ]
 
 -- an insert: refused, or the item was there, or it goes without growth, or it must grow and may
 pub data InsertSays (s : List ℕ) (lg v c x : ℕ) : Outcome → Type 0 where
@@ -96,6 +98,8 @@ insert_says s e lg v c x long l = rw (is_judged s e lg v c long l) (item (item_j
     grows : Fine v x → (Member s (2 ^ lg) x → ⊥) → fits (c + 1) lg ≡ false → (o : Outcome) → GrowthSays s (lg + 1) v o → InsertSays s lg v c x (and_then o (changed (lg + 1) v (c + 1)))
     grows w new f (refused number place) cannot = refuses
     grows w new f (accepted []) (can a b d) = grown w new f (omega arith) b d
+    grows w new f (accepted (_ ∷ _)) x6 = elim x6 [ ]
+    grows w new f (Rattle.refusals.specs.Outcome.stopped number place bit) x3 = elim x3 [ ]
 
     fit : Fine v x → (Member s (2 ^ lg) x → ⊥) → (b : Bool) → fits (c + 1) lg ≡ b
         → InsertSays s lg v c x (choose b (changed lg v (c + 1)) (and_then (growth_judged s (lg + 1) v) (changed (lg + 1) v (c + 1))))
@@ -111,6 +115,8 @@ insert_says s e lg v c x long l = rw (is_judged s e lg v c long l) (item (item_j
         → InsertSays s lg v c x (and_then o (choose (holds s (2 ^ lg) x) unchanged (choose (fits (c + 1) lg) (changed lg v (c + 1)) (and_then (growth_judged s (lg + 1) v) (changed (lg + 1) v (c + 1))))))
     item (refused number place) bad = refuses
     item (accepted []) (good w) = has w (holds s (2 ^ lg) x) refl
+    item (accepted (_ ∷ _)) x6 = elim x6 [ ]
+    item (Rattle.refusals.specs.Outcome.stopped number place bit) x3 = elim x3 [ ]
 
 -- a delete: refused, or the item was not there, or it is taken out
 pub data DeleteSays (s : List ℕ) (lg v c x : ℕ) : Outcome → Type 0 where
@@ -130,6 +136,8 @@ delete_says s e lg v c x long l = rw (is_judged s e lg v c long l) (item (item_j
     item : (o : Outcome) → ItemSays v x o → DeleteSays s lg v c x (and_then o (choose (holds s (2 ^ lg) x) (changed (halved_lg lg lg (c - 1)) v (c - 1)) unchanged))
     item (refused number place) bad = refuses
     item (accepted []) (good w) = has w (holds s (2 ^ lg) x) refl
+    item (accepted (_ ∷ _)) x6 = elim x6 [ ]
+    item (Rattle.refusals.specs.Outcome.stopped number place bit) x3 = elim x3 [ ]
 
 -- a build that is accepted
 pub record BuildSays (s e : List ℕ) (v : ℕ) (list : List ℕ) : Type 0 where

@@ -16,7 +16,7 @@ use super::planning::Shape;
 use pair_lists::{PairsAnswer, judge_pairs};
 use refusals::Refusal;
 
-#[derive(Drop)]
+#[derive(Clone, Copy)]
 pub enum Judgement {
     Lawful,
     Refused(Refusal),

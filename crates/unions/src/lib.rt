@@ -19,14 +19,14 @@ use numbers::{Flavor, RowsAnswer, rows};
 use planning::Plan;
 use refusals::Refusal;
 
-#[derive(Drop)]
+#[derive(Clone, Copy)]
 pub enum CountAnswer {
     Counted(u32),
     Refused(Refusal),
 }
 
 // What a split says of a matrix.
-#[derive(Drop)]
+#[derive(Clone, Copy)]
 pub struct Summary {
     pub coupons: u32,
     pub flavor: Flavor,
@@ -37,20 +37,20 @@ pub struct Summary {
     pub pairs: u32,
 }
 
-#[derive(Drop)]
+#[derive(Clone, Copy)]
 pub enum SplitAnswer {
     Parted(Summary),
     Refused(Refusal),
 }
 
-#[derive(Drop)]
+#[derive(Clone, Copy)]
 pub enum ExpandAnswer {
     Expanded,
     Refused(Refusal),
 }
 
 // A union besides its matrix.
-#[derive(Drop)]
+#[derive(Clone, Copy)]
 pub struct CpcUnion {
     // the configured lg_k: the matrix has 2^lg words
     pub lg: u8,
@@ -60,14 +60,14 @@ pub struct CpcUnion {
 }
 
 // A read sketch besides its window and its pairs.
-#[derive(Drop)]
+#[derive(Clone, Copy)]
 pub struct Source {
     pub lg: u8,
     pub seed: u64,
     pub coupons: u32,
 }
 
-#[derive(Drop)]
+#[derive(Clone, Copy)]
 pub enum UnionAnswer {
     Made(CpcUnion),
     Refused(Refusal),

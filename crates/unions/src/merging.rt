@@ -44,7 +44,7 @@ fn next_early(pairs: &[u32], start: usize, offset: u64) -> usize
     i
 }
 
-#[derive(Drop)]
+#[derive(Clone, Copy)]
 pub struct Row {
     pub word: u64,
     pub next: usize,

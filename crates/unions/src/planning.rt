@@ -19,14 +19,14 @@ use numbers::{
 use refusals::Refusal;
 
 // What the coupons say of a source or a matrix: its flavor, a window or none, and its offset.
-#[derive(Drop)]
+#[derive(Clone, Copy)]
 pub struct Shape {
     pub flavor: Flavor,
     pub wide: bool,
     pub offset: u64,
 }
 
-#[derive(Drop)]
+#[derive(Clone, Copy)]
 pub enum Plan {
     Take(Shape),
     Refused(Refusal),

@@ -18,7 +18,7 @@ use super::{SplitAnswer, Summary};
 use refusals::Refusal;
 
 // How a row's word is cut: what is kept of it, with what is flipped, is its surprise word.
-#[derive(Drop)]
+#[derive(Clone, Copy)]
 pub struct Cut {
     pub wide: bool,
     pub offset: u64,
@@ -215,7 +215,7 @@ fn list_row(w: u64, row: u64, out: &mut [u32], n: usize) -> usize
     i
 }
 
-#[derive(Drop)]
+#[derive(Clone, Copy)]
 pub struct Surprises {
     // all surprise words ORed
     pub ored: u64,
