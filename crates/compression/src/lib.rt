@@ -2,6 +2,7 @@
 // After src/cpc/compression.rs of the Rust crate datasketches 0.5.0 (Apache-2.0); changed: lent slices for `Vec`, a cursor by value beside the slice, books that are lent and judged, and
 // each call is total and refuses by number.
 #![tactic(auto)]
+
 ghost use Rattle.std.specs.Prelude.{◌≡◌};
 ghost use Rattle.streams.specs.Calls.{read_pairs_of, pairs_read, read_window_of, window_read, write_pairs_of, pairs_written, write_window_of, window_written};
 ghost use Rattle.compression.specs.Told.{told_read, told_write};

@@ -1,0 +1,9 @@
+-- `compression::reader::word_at` meets its contract. Assumes nothing.
+use native.Mathlib.Omega.{arith}
+use borrow.Author.Rules.{rules}
+use Rattle.compression.proofs.ReaderStream.{four_bytes}
+use Rattle.compression.proofs.reader.word_at.Goals as goal
+
+pub returns : goal.returns
+returns c = let a = c.args in
+    omega (arith, four_bytes a.stream.now a.i (λ k. (c.shared_slice_known-1.given k).fits))
