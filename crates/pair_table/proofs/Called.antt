@@ -16,6 +16,7 @@ use Rattle.pair_table.proofs.Judging.{then_assoc}
 unchanged_by : (o : Outcome) → Refuses o → (after before : List ℕ) → if_changed o after before ≡ before
 unchanged_by (refused number place) by_place after before = refl
 unchanged_by (stopped number place bit) by_bit after before = refl
+unchanged_by (Rattle.refusals.specs.Outcome.accepted _) x'' after before = elim x'' [ ]
 
 -- a refusal leaves what was lent as it was
 pub unchanged_if_refused : (why : Refusal) (after before : List ℕ) → if_changed (told why) after before ≡ before

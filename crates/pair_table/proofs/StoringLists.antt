@@ -76,6 +76,7 @@ test_leaves false number place more d l = l
 then_leaves : (a b : Outcome) → Leaves a → Leaves b → Leaves (and_then a b)
 then_leaves (accepted values) b passes m = m
 then_leaves (refused number place) b (refuses d) m = refuses d
+then_leaves (Rattle.refusals.specs.Outcome.stopped number place bit) b x'' m = elim x'' [ ]
 
 item_leaves : (v x place : ℕ) → Leaves (item_judged v x place)
 unfolding item_judged
@@ -98,6 +99,7 @@ growth_leaves s lg v = test_leaves (ltb 26 lg || leb v lg) 13 0 _ refl (test_lea
 left_by : (o : Outcome) (why : Refusal) → told why ≡ o → Leaves o → (built twice before : List ℕ) → if_built o built twice before ≡ before
 left_by (accepted values) why e passes built twice before = absurd (never_accepted why values (sym e))
 left_by (refused number place) why e (refuses d) built twice before = simp d
+left_by (Rattle.refusals.specs.Outcome.stopped number place bit) why e x'' built twice before = elim x'' [ ]
 
 -- a refusal by such a judgement, whatever was to come after it
 pub built_refused : (whole judged more : Outcome) (v : ℕ) (list s e : List ℕ) (why : Refusal) → whole ≡ and_then judged more → told why ≡ judged → Leaves judged → MadeBy whole v list s e s e (table.Refused why)

@@ -2,6 +2,7 @@
 // After src/cpc/pair_table.rs of the Rust crate datasketches 0.5.0 (Apache-2.0); changed: a record by value beside lent regions for a struct that holds a `Vec`,
 // `rebuild` takes the spare, and each call is total and refuses by number. Crate table_listings has extraction and the walk.
 #![tactic(auto)]
+
 ghost use Rattle.std.specs.Prelude.{◌≡◌};
 ghost use Rattle.tables.specs.Calls.{table_judged, new_of, blank_if, build_of, build_region, build_spare, insert_of, insert_region, delete_of, delete_region, spare_after, clear_of};
 ghost use Rattle.pair_table.specs.Told.{told_table, told_change, told_verdict};

@@ -2,6 +2,7 @@
 // After src/cpc/union.rs, src/cpc/sketch.rs (build_bit_matrix) and src/cpc/mod.rs (count_bits_set_in_matrix) of the Rust crate datasketches 0.5.0 (Apache-2.0); changed: one lent matrix and a
 // small record for `UnionState`, lent slices for `Vec`, and each call is total and refuses by number.
 #![tactic(auto)]
+
 ghost use Rattle.std.specs.Prelude.{◌≡◌};
 ghost use Rattle.matrices.specs.Calls.{count_of, split_of, split_window, split_pairs, expand_of, expanded_matrix, new_union_of, new_matrix, merge_of, merged_matrix};
 ghost use Rattle.unions.specs.Told.{told_count, told_split, told_expand, told_union};

@@ -1,0 +1,18 @@
+-- `pair_table::building::build_rest`: what its loops keep true, and why they end. Assumes nothing.
+use mathlib.Core.Path.{◌∙◌}
+use mathlib.Core.Logic.{⊎_elim}
+use Prim.Native.Nat.{◌+◌, ◌-◌}
+use native.Mathlib.Omega.{arith}
+use lib.ListN.{length, length-replicate}
+use borrow.Author.Rules.{rules}
+use Rattle.tables.specs.Slots.{empty}
+use Rattle.tables.specs.Changes.{blank}
+use Rattle.tables.proofs.Finger.{Before, last, twice, stay, move}
+use Rattle.pair_table.proofs.RisingLists.{goes_on}
+use Rattle.pair_table.proofs.building.build_rest.Given as goal
+
+abbrev pub invariant-loop-i : goal.invariant-loop-i
+invariant-loop-i l = Before l.list (blank l.initial.slots) l.slots l.lg l.v l.p l.len l.top l.i
+
+abbrev pub decreases-loop-i : goal.decreases-loop-i
+decreases-loop-i l = length l.list - l.i

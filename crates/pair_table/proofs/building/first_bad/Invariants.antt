@@ -1,0 +1,15 @@
+-- `pair_table::building::first_bad`: what its loops keep true, and why they end. Assumes nothing.
+use mathlib.Core.Path.{refl, sym, ap, ◌∙◌}
+use Prim.Native.Nat.{◌-◌}
+use native.Mathlib.Omega.{arith}
+use lib.ListN.{length}
+use borrow.Author.Rules.{rules}
+use Rattle.pair_table.specs.Told.{told_verdict}
+use Rattle.pair_table.proofs.StoringLists.{Judging, items_refused, items_next, items_all}
+use Rattle.pair_table.proofs.building.first_bad.Given as goal
+
+abbrev pub invariant-loop-i : goal.invariant-loop-i
+invariant-loop-i l = Judging l.v l.list l.i
+
+abbrev pub decreases-loop-i : goal.decreases-loop-i
+decreases-loop-i l = length l.list - l.i

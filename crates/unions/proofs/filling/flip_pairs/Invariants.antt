@@ -1,0 +1,18 @@
+-- `unions::filling::flip_pairs`: what its loops keep true, and why they end. Assumes nothing.
+use borrow.Author.Rules.{rules}
+use mathlib.Core.Path.{◌≡◌, ap, ◌∙◌}
+use mathlib.Core.List.{List}
+use Prim.Native.Nat.{ℕ, ◌-◌, ◌/◌, ◌%◌, ◌≤◌, ◌<◌}
+use native.Mathlib.Omega.{arith}
+use lib.Dec.{eqb}
+use lib.ListN.{length, get_or, set, length-set}
+use Rattle.laws.specs.Columns.{word_of, differs}
+use Rattle.matrices.specs.Matrix.{at, matrix_of}
+use Rattle.unions.proofs.Flips.{flipped_to, flip_start, flip_turn, flip_end}
+use Rattle.unions.proofs.filling.flip_pairs.Given as goal
+
+abbrev pub invariant-loop-i : goal.invariant-loop-i
+invariant-loop-i l = (l.i ≤ length l.pairs) × (length l.matrix ≡ length l.initial.matrix) × (l.matrix ≡ matrix_of (length l.initial.matrix) (flipped_to l.initial.matrix l.pairs l.i))
+
+abbrev pub decreases-loop-i : goal.decreases-loop-i
+decreases-loop-i l = length l.pairs - l.i

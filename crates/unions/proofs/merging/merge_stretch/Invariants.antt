@@ -1,0 +1,20 @@
+-- `unions::merging::merge_stretch`: what its loops keep true, and why they end. Assumes nothing.
+use borrow.Author.Rules.{rules}
+use mathlib.Core.Path.{◌≡◌, sym, ap, ◌∙◌, subst}
+use mathlib.Core.Bool.{◌||◌}
+use mathlib.Core.List.{List}
+use Prim.Native.Nat.{ℕ, ◌+◌, ◌-◌, ◌%◌, ◌^◌, ◌≤◌, ◌<◌}
+use native.Mathlib.Omega.{arith}
+use lib.ListN.{length, set}
+use lib.Pow.{pow_pos, pow_mono}
+use Rattle.laws.specs.Columns.{has, word_of}
+use Rattle.matrices.specs.Matrix.{at}
+use Rattle.unions.specs.Steps.{Stretched}
+use Rattle.unions.proofs.Stretches.{falls_next, stretch_start, stretch_turn}
+use Rattle.unions.proofs.merging.merge_stretch.Given as goal
+
+abbrev pub invariant-loop-r : goal.invariant-loop-r
+invariant-loop-r l = (l.from ≤ l.r) × (l.r ≤ l.to) × (l.t ≡ l.from % 2 ^ l.lg + (l.r - l.from)) × Stretched (2 ^ l.lg) l.offset l.window l.from l.r l.initial.matrix l.matrix
+
+abbrev pub decreases-loop-r : goal.decreases-loop-r
+decreases-loop-r l = l.to - l.r

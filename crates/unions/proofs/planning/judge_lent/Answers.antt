@@ -1,0 +1,44 @@
+-- `unions::planning::judge_lent` meets its contract. Assumes nothing.
+use mathlib.Core.Path.{◌≡◌, sym, ap, ◌∙◌, subst}
+use mathlib.Core.Bool.{Bool}
+use mathlib.Core.List.{[]}
+use Prim.Native.Nat.{◌^◌}
+use Rattle.laws.specs.Choose.{choose}
+use Rattle.refusals.specs.Outcome.{accepted}
+use Rattle.numbers.proofs.RowsTold.{RowsAt, matched_rows, rows_refused}
+use Rattle.numbers.specs.Told.{told_rows}
+use Rattle.unions.specs.Steps.{PlannedBy, ShapeOf, shape_judged}
+use Rattle.unions.proofs.PlanSteps.{lent_outside, lent_shape, lent_words, lent_bytes, lent_passed}
+use borrow.Author.Rules.{rules}
+use Rattle.unions.proofs.planning.judge_lent.Goals as goal
+
+pub returns-then-words-k : goal.returns-then-words-k
+returns-then-words-k c = let a = c.args in
+    let at = (let k_at : RowsAt c.args.lg c.in-Rows.k = matched_rows c.rows.ensures c.in-Rows.is in k_at) in
+    lent_words a.lg a.words a.from a.coupons a.bytes at.inside ((let shaped : (shape_judged c.args.from c.args.coupons ≡ accepted []) × ShapeOf c.args.from c.args.coupons c.in-Take.shape = let a = c.args in subst (PlannedBy (shape_judged a.from a.coupons) a.from a.coupons) c.in-Take.is c.shape_of.ensures in shaped)).0 (λ q. c.if-words-k.true (q ∙ sym at.power))
+
+pub window_bytes-requires : goal.window_bytes-requires
+window_bytes-requires c = ((let shaped : (shape_judged c.args.from c.args.coupons ≡ accepted []) × ShapeOf c.args.from c.args.coupons c.in-Take.shape = let a = c.args in subst (PlannedBy (shape_judged a.from a.coupons) a.from a.coupons) c.in-Take.is c.shape_of.ensures in shaped)).1.high
+
+pub returns-then-bytes-window_bytes : goal.returns-then-bytes-window_bytes
+returns-then-bytes-window_bytes c = let a = c.args in
+    let at = (let k_at : RowsAt c.args.lg c.in-Rows.k = matched_rows c.rows.ensures c.in-Rows.is in k_at) in
+    let is = c.window_bytes.ensures ∙ ap (λ (b : Bool). choose b (2 ^ a.from) 0) ((let shaped : (shape_judged c.args.from c.args.coupons ≡ accepted []) × ShapeOf c.args.from c.args.coupons c.in-Take.shape = let a = c.args in subst (PlannedBy (shape_judged a.from a.coupons) a.from a.coupons) c.in-Take.is c.shape_of.ensures in shaped)).1.wide in
+    lent_bytes a.lg a.words a.from a.coupons a.bytes at.inside ((let shaped : (shape_judged c.args.from c.args.coupons ≡ accepted []) × ShapeOf c.args.from c.args.coupons c.in-Take.shape = let a = c.args in subst (PlannedBy (shape_judged a.from a.coupons) a.from a.coupons) c.in-Take.is c.shape_of.ensures in shaped)).0 (c.if-words-k.false ∙ at.power) (λ q. c.if-bytes-window_bytes.true (q ∙ sym is))
+
+pub returns-in-Refused : goal.returns-in-Refused
+returns-in-Refused c = let a = c.args in
+    lent_outside a.lg a.words a.from a.coupons a.bytes c.in-Refused.why
+    (rows_refused a.lg c.in-Refused.why (sym (ap told_rows c.in-Refused.is) ∙ c.rows.ensures))
+
+pub returns-in-Refused-shape_of : goal.returns-in-Refused-shape_of
+returns-in-Refused-shape_of c = let a = c.args in
+    let at = (let k_at : RowsAt c.args.lg c.in-Rows.k = matched_rows c.rows.ensures c.in-Rows.is in k_at) in
+    lent_shape a.lg a.words a.from a.coupons a.bytes at.inside c.in-Refused-shape_of.why
+    (subst (PlannedBy (shape_judged a.from a.coupons) a.from a.coupons) c.in-Refused-shape_of.is c.shape_of.ensures)
+
+pub returns-else-bytes-window_bytes : goal.returns-else-bytes-window_bytes
+returns-else-bytes-window_bytes c = let a = c.args in
+    let at = (let k_at : RowsAt c.args.lg c.in-Rows.k = matched_rows c.rows.ensures c.in-Rows.is in k_at) in
+    let is = c.window_bytes.ensures ∙ ap (λ (b : Bool). choose b (2 ^ a.from) 0) ((let shaped : (shape_judged c.args.from c.args.coupons ≡ accepted []) × ShapeOf c.args.from c.args.coupons c.in-Take.shape = let a = c.args in subst (PlannedBy (shape_judged a.from a.coupons) a.from a.coupons) c.in-Take.is c.shape_of.ensures in shaped)).1.wide in
+    (lent_passed a.lg a.words a.from a.coupons a.bytes at.inside ((let shaped : (shape_judged c.args.from c.args.coupons ≡ accepted []) × ShapeOf c.args.from c.args.coupons c.in-Take.shape = let a = c.args in subst (PlannedBy (shape_judged a.from a.coupons) a.from a.coupons) c.in-Take.is c.shape_of.ensures in shaped)).0 (c.if-words-k.false ∙ at.power) (c.if-bytes-window_bytes.false ∙ is), ((let shaped : (shape_judged c.args.from c.args.coupons ≡ accepted []) × ShapeOf c.args.from c.args.coupons c.in-Take.shape = let a = c.args in subst (PlannedBy (shape_judged a.from a.coupons) a.from a.coupons) c.in-Take.is c.shape_of.ensures in shaped)).1)

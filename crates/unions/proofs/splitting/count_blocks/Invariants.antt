@@ -1,0 +1,15 @@
+-- `unions::splitting::count_blocks`: what its loops keep true, and why they end. Assumes nothing.
+use mathlib.Core.Path.{◌≡◌, sym, ap, ap₂, ◌∙◌}
+use Prim.Native.Nat.{ℕ, ◌+◌, ◌-◌, ◌≤◌}
+use native.Mathlib.Omega.{arith}
+use lib.ListN.{length, get_or, length-append}
+use Rattle.unions.specs.Steps.{pairs_from, block_pairs}
+use Rattle.unions.proofs.Blocks.{from_few, blocks_none, blocks_more, blocks_few}
+use borrow.Author.Rules.{rules}
+use Rattle.unions.proofs.splitting.count_blocks.Given as goal
+
+abbrev pub invariant-loop-i : goal.invariant-loop-i
+invariant-loop-i l = (l.i ≤ l.many) × (l.count ≡ length (block_pairs l.cut.wide l.cut.offset l.matrix l.found l.i))
+
+abbrev pub decreases-loop-i : goal.decreases-loop-i
+decreases-loop-i l = l.many - l.i

@@ -1,0 +1,15 @@
+-- `unions::splitting::find_blocks`: what its loops keep true, and why they end. Assumes nothing.
+use mathlib.Core.Path.{◌≡◌, sym, ◌∙◌, subst}
+use Prim.Native.Nat.{ℕ, ◌+◌, ◌-◌, ◌%◌, ◌≤◌, ◌<◌}
+use native.Mathlib.Omega.{arith}
+use lib.ListN.{length, set, length-set}
+use Rattle.unions.specs.Steps.{Found}
+use Rattle.unions.proofs.Blocks.{found_start, found_turn}
+use borrow.Author.Rules.{rules}
+use Rattle.unions.proofs.splitting.find_blocks.Given as goal
+
+abbrev pub invariant-loop-r : goal.invariant-loop-r
+invariant-loop-r l = (l.from ≤ l.r) × (l.r ≤ l.to) × (l.r % 8 ≡ 0) × (length l.found ≡ 64) × Found l.cut.wide l.cut.offset l.matrix l.from l.r l.found l.n
+
+abbrev pub decreases-loop-r : goal.decreases-loop-r
+decreases-loop-r l = l.to - l.r

@@ -1,0 +1,14 @@
+-- `unions::words::surprises_of` meets its contract. Assumes nothing.
+use borrow.Author.Rules.{rules}
+use mathlib.Core.Path.{◌∙◌, ap}
+use Prim.Native.Nat.{ℕ}
+use lib.Dec.{ltb}
+use Rattle.laws.specs.Columns.{has, word_of, differs}
+use Rattle.matrices.proofs.Parting.{surprises_steps}
+use Rattle.unions.proofs.words.surprises_of.Goals as goal
+
+pub returns : goal.returns
+returns c = let a = c.args in
+    c.flip_below.ensures
+    ∙ ap (λ (x : ℕ). word_of 64 (λ d. differs (has x d) (ltb d a.o))) c.clear_window.ensures
+    ∙ surprises_steps a.o a.w

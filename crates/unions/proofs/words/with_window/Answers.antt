@@ -1,0 +1,18 @@
+-- `unions::words::with_window` meets its contract. Assumes nothing.
+use borrow.Author.Rules.{rules}
+use Rattle.laws.proofs.Columns.{has_or, has_low, has_shl}
+use Rattle.laws.specs.Columns.{has}
+use mathlib.Core.Path.{◌∙◌, ap}
+use mathlib.Core.Bool.{Bool, ◌||◌}
+use Prim.Native.Nat.{◌*◌, ◌%◌, ◌^◌, ◌-◌}
+use Rattle.laws.proofs.Words.{word_is}
+use lib.Bits.{or_lt}
+use lib.Pow.{pow_pos}
+use native.Mathlib.Nat.{mod-lt}
+use Rattle.unions.proofs.words.with_window.Goals as goal
+
+pub returns : goal.returns
+returns c = let w = c.args.w in
+    let x = c.args.b * 2 ^ c.args.o in
+    word_is 64 _ _ (or_lt 64 w (x % 2 ^ 64) c.ranges.w.fits (mod-lt x (pow_pos 64)))
+    (λ d l. has_or w (x % 2 ^ 64) d ∙ ap (λ (t : Bool). has w d || t) (has_low x 64 d l ∙ has_shl c.args.b c.args.o d))
