@@ -64,4 +64,4 @@ pub returns-else-lacks_room : goal.returns-else-lacks_room
 returns-else-lacks_room c = let n = c.count_ones_in-ones in
     let a = c.args in
     room_enough a.lg n.result a.matrix.now a.window.now a.pairs.now c.in-Take.shape n.ensures ((let shaped : ShapeOf c.args.lg c.count_ones_in-ones.result c.in-Take.shape = let lg = c.args.lg in let n = c.count_ones_in-ones.result in (subst (PlannedBy (shape_judged lg n) lg n) c.in-Take.is c.shape_of.ensures).1 in shaped))
-    c.write_parts-found.result c.write_parts-found.ensures.0 (sym c.lacks_room.ensures ∙ c.if-lacks_room.left) _ _ c.write_parts-found.ensures.1 c.write_parts-found.ensures.2
+    c.write_parts-found.result c.write_parts-found.ensures.0 (sym c.lacks_room.ensures ∙ c.if-lacks_room.false) _ _ c.write_parts-found.ensures.1 c.write_parts-found.ensures.2

@@ -69,10 +69,10 @@ loop-from-preserved c = let w = c.list_blocks-all in
     let o = a.cut.offset in
     let m = a.matrix.now in
     let e = c.blocks_end-to in
-    let blocks = block_pairs wide o m c.find_blocks-many.last.1.1.1.1.0 c.find_blocks-many.result in (
+    let blocks = block_pairs wide o m c.find_blocks-many.new.found c.find_blocks-many.result in (
       e.ensures.1,
       e.ensures.3,
-      c.find_blocks-many.kept.1.1.1.1.0 ∙ l.invariant.2,
+      c.find_blocks-many.auto.found ∙ l.invariant.2,
       w.auto.out ∙ l.invariant.3,
       subst (λ (x : List ℕ). Added x (record { ored = 0; count = 0 }) a.out.now w.result w.new.out) (sym ((let chunk : listed_to c.args.cut.wide c.args.cut.offset c.args.matrix.now c.blocks_end-to.result ≡ listed_to c.args.cut.wide c.args.cut.offset c.args.matrix.now c.loop-from.from ++ block_pairs c.args.cut.wide c.args.cut.offset c.args.matrix.now c.find_blocks-many.new.found c.find_blocks-many.result = let e = c.blocks_end-to in let a = c.args in let l = c.loop-from in listed_found a.cut.wide a.cut.offset a.matrix.now l.from e.result c.find_blocks-many.new.found c.find_blocks-many.result (omega (arith, e.ensures.0)) c.find_blocks-many.ensures in chunk)))
           (added_both (listed_to wide o m l.from) blocks (record { ored = 0; count = 0 }) l.all w.result a.out.now l.out w.new.out l.invariant.4 w.ensures),
