@@ -9,7 +9,7 @@ use Rattle.pair_table.proofs.clear.Goals as goal
 
 pub returns-in-Refused : goal.returns-in-Refused
 unfolding clear_of
-returns-in-Refused c =    let a = c.args in
+returns-in-Refused c = let a = c.args in
     let t = a.table in
     let s = a.region.now in
     let e = a.spare.now in
@@ -21,7 +21,7 @@ returns-in-Refused c =    let a = c.args in
 
 pub returns-in-Passes : goal.returns-in-Passes
 unfolding clear_of
-returns-in-Passes c =    let a = c.args in
+returns-in-Passes c = let a = c.args in
     let t = a.table in
     let s = a.region.now in
     let e = a.spare.now in

@@ -14,13 +14,13 @@ use Rattle.pair_table.proofs.Called.{change_refused, change_done, insert_chain}
 use Rattle.pair_table.proofs.insert.Goals as goal
 
 pub insert_judged-requires : goal.insert_judged-requires
-insert_judged-requires c =    let a = c.args in
+insert_judged-requires c = let a = c.args in
     let t = a.table in
     let w = call_passed a.region.now a.spare.now t.lg t.valid t.items a.item ((let judged : and_then (table_judged c.args.region.now c.args.spare.now c.args.table.lg c.args.table.valid c.args.table.items) (item_judged c.args.table.valid c.args.item 0) ≡ accepted [] = sym (sym (ap told_verdict c.in-Passes.is) ∙ c.judge_call.ensures) in judged)) in
-     record { lawful = (w.0.1, w.0.0); item_bound = w.1 }
+    record { lawful = (w.0.1, w.0.0); item_bound = w.1 }
 
 pub returns-in-Refused : goal.returns-in-Refused
-returns-in-Refused c =    let a = c.args in
+returns-in-Refused c = let a = c.args in
     let t = a.table in
     let s = a.region.now in
     let e = a.spare.now in
@@ -33,7 +33,7 @@ returns-in-Refused c =    let a = c.args in
     change_refused whole more s e (inserted s t.lg t.valid t.items a.item) c.in-Refused.why chain
 
 pub returns-in-Passes : goal.returns-in-Passes
-returns-in-Passes c =    let a = c.args in
+returns-in-Passes c = let a = c.args in
     let t = a.table in
     let s = a.region.now in
     let e = a.spare.now in

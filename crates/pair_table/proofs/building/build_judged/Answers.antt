@@ -11,17 +11,17 @@ use Rattle.pair_table.proofs.StoringLists.{growth_refused, growth_done}
 use Rattle.pair_table.proofs.building.build_judged.Goals as goal
 
 pub store_list-requires : goal.store_list-requires
-store_list-requires c =    let w = can_grow c.args.region.now c.lg_for-lg.result c.args.v ((let judged : growth_judged c.args.region.now c.lg_for-lg.result c.args.v ≡ accepted [] = sym (sym (ap told_verdict c.in-Passes.is) ∙ c.judge_growth.ensures) in judged)) in
+store_list-requires c = let w = can_grow c.args.region.now c.lg_for-lg.result c.args.v ((let judged : growth_judged c.args.region.now c.lg_for-lg.result c.args.v ≡ accepted [] = sym (sym (ap told_verdict c.in-Passes.is) ∙ c.judge_growth.ensures) in judged)) in
     (c.requires, c.lg_for-lg.ensures.0, w.0, w.1, w.2)
 
 pub returns-in-Refused : goal.returns-in-Refused
-returns-in-Refused c =    let a = c.args in
+returns-in-Refused c = let a = c.args in
     let lg = c.lg_for-lg in
     growth_refused a.region.now a.spare.now a.v a.list.now c.in-Refused.why
     (sym (ap told_verdict c.in-Refused.is) ∙ c.judge_growth.ensures ∙ ap (λ (n : ℕ). growth_judged a.region.now n a.v) lg.ensures.0)
 
 pub returns-in-Passes : goal.returns-in-Passes
-returns-in-Passes c =    let a = c.args in
+returns-in-Passes c = let a = c.args in
     let r = c.store_list in
     let lg = c.lg_for-lg in
     growth_done a.region.now a.spare.now a.v a.list.now r.new.region r.new.spare r.result

@@ -10,6 +10,7 @@ use Rattle.tables.specs.Changes.{blank}
 use Rattle.tables.proofs.Finger.{Before, last, twice, stay, move}
 use Rattle.pair_table.proofs.RisingLists.{goes_on}
 use Rattle.pair_table.proofs.building.build_rest.Goals as goal
+use Rattle.pair_table.proofs.building.build_rest.Goals.{then-top-x, else-top-x}
 
 pub loop-i-init : goal.loop-i-init
 loop-i-init c = goes_on _ _ _ _ _ (c.args.most + 1) c.args.most _ c.requires.built_to.0 (omega arith)
@@ -57,18 +58,19 @@ pub loop-i-smaller : goal.loop-i-smaller
 loop-i-smaller c = omega arith
 
 pub loop-i-preserved : goal.loop-i-preserved
-loop-i-preserved c = let k = c.locate-q in
+loop-i-preserved c =
+    let k = c.locate-q in
     let t = c.loop-i-test.true in
     let x = c.requires.by_index c.loop-i.i t in
     let e = k.ensures in
     let new = c.if-slots-q.false in
-    ⊎_elim
-    (λ w. rw (w.4, w.5, w.6, w.3.ensures.0, c.size-n.ensures)
-    (move c.args.list.now (blank c.args.slots.now) c.loop-i.slots c.args.lg c.args.v c.loop-i.p c.loop-i.len c.loop-i.top c.loop-i.i k.result c.loop-i.invariant t c.requires.built_to.1 x.0 x.1 e.0 e.1 new
-    w.2.result w.0.taken (rw w.1.ensures.0 c w.1.ensures.1) (rw c.size-n.ensures c w.2.ensures.0) (rw (w.1.ensures.0, c.size-n.ensures) c w.2.ensures.1)))
-    (λ w. rw (w.1, w.2, w.3)
-    (stay c.args.list.now (blank c.args.slots.now) c.loop-i.slots c.args.lg c.args.v c.loop-i.p c.loop-i.len c.loop-i.top c.loop-i.i k.result c.loop-i.invariant t c.requires.built_to.1 x.0 x.1 e.0 e.1 new w.0.left))
-    c.if-top-x.branch
+    elim c.if-top-x.branch [
+      then-top-x w ↦ rw (w.p-is, w.len-is, w.top-is, w.step-p.ensures.0, c.size-n.ensures)
+      (move c.args.list.now (blank c.args.slots.now) c.loop-i.slots c.args.lg c.args.v c.loop-i.p c.loop-i.len c.loop-i.top c.loop-i.i k.result c.loop-i.invariant t c.requires.built_to.1 x.0 x.1 e.0 e.1 new
+      w.dist-len.result w.if-top-x.true (rw w.home_of-h.ensures.0 at w.home_of-h.ensures.1) (rw c.size-n.ensures at w.dist-len.ensures.0) (rw (w.home_of-h.ensures.0, c.size-n.ensures) at w.dist-len.ensures.1))
+    | else-top-x w ↦ rw (w.p-is, w.len-is, w.top-is)
+      (stay c.args.list.now (blank c.args.slots.now) c.loop-i.slots c.args.lg c.args.v c.loop-i.p c.loop-i.len c.loop-i.top c.loop-i.i k.result c.loop-i.invariant t c.requires.built_to.1 x.0 x.1 e.0 e.1 new w.if-top-x.false)
+    ]
 
 pub shape_of-slots : goal.shape_of-slots
 shape_of-slots c = c.loop-i.invariant.long ∙ length-replicate _ empty

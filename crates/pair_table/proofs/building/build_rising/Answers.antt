@@ -55,7 +55,7 @@ loop-i-preserved c = let t = c.loop-i-test.true in
     let h = c.home_of-h in
     let k = c.later-q in
     rising_turn c.args.list.now c.args.slots.now c.loop-i.slots c.args.lg c.args.v c.loop-i.p c.loop-i.least c.loop-i.i h.result k.result c.loop-i.invariant t c.requires.lawful.1 x.0 x.1
-    c.if-x-least.false h.ensures.0 k.ensures.0 k.ensures.1 k.ensures.2 (rw c.size-n.ensures c c.if-n-q.false)
+    c.if-x-least.false h.ensures.0 k.ensures.0 k.ensures.1 k.ensures.2 (rw c.size-n.ensures at c.if-n-q.false)
 
 pub shape_of-slots : goal.shape_of-slots
 shape_of-slots c = c.loop-i.invariant.so_far.long

@@ -7,7 +7,8 @@ use Rattle.pair_table.proofs.building.store_list.Goals as goal
 
 pub build_into-stored-requires : goal.build_into-stored-requires
 build_into-stored-requires c = let a = c.args in
-    store_needs a.v a.list.now a.region.now a.spare.now a.lg c.requires.0 c.requires.1 c.requires.2 c.requires.3 c.requires.4 c.wipe.new.slots c.wipe.ensures
+    let n = store_needs a.v a.list.now a.region.now a.spare.now a.lg c.requires.0 c.requires.1 c.requires.2 c.requires.3 c.requires.4 c.wipe.new.slots c.wipe.ensures in
+    record { lawful = n.0; by_index = n.1 }
 
 pub returns-then-stored-list : goal.returns-then-stored-list
 returns-then-stored-list c = let a = c.args in

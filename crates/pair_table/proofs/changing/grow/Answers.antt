@@ -14,8 +14,9 @@ use Rattle.pair_table.proofs.changing.grow.Goals as goal
 
 pub rebuild-requires : goal.rebuild-requires
 rebuild-requires c = let a = c.args in
-    grow_needs a.region.now a.spare.now a.lg a.v a.c a.item a.at c.requires.lawful.0 c.requires.lawful.1 c.requires.item_bound.0 c.requires.item_bound.1 c.requires.item_bound.2
-    c.wipe.new.slots c.size-n.result c.wipe.ensures c.size-n.ensures (can_grow a.region.now (a.lg + 1) a.v ((let judged : growth_judged c.args.region.now (c.args.lg + 1) c.args.v ≡ accepted [] = sym (sym (ap told_verdict c.in-Passes.is) ∙ c.judge_growth.ensures) in judged)))
+    let n = grow_needs a.region.now a.spare.now a.lg a.v a.c a.item a.at c.requires.lawful.0 c.requires.lawful.1 c.requires.item_bound.0 c.requires.item_bound.1 c.requires.item_bound.2
+    c.wipe.new.slots c.size-n.result c.wipe.ensures c.size-n.ensures (can_grow a.region.now (a.lg + 1) a.v ((let judged : growth_judged c.args.region.now (c.args.lg + 1) c.args.v ≡ accepted [] = sym (sym (ap told_verdict c.in-Passes.is) ∙ c.judge_growth.ensures) in judged))) in
+    record { region_len = n.0; lg_bound = n.1 }
 
 pub overflow_add-result-in-Passes : goal.overflow_add-result-in-Passes
 overflow_add-result-in-Passes c = omega (arith, few c.args.region.now c.args.lg c.args.v c.args.c c.requires.lawful.0)

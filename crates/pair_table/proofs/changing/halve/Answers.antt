@@ -31,7 +31,8 @@ overflow_sub-at c = omega arith
 pub rebuild-requires : goal.rebuild-requires
 rebuild-requires c = let a = c.args in
     let k = c.loop-at in
-    halving_needs a.region.now a.spare.now k.region k.spare a.lg a.v a.c k.at k.invariant c.requires.0 c.loop-at-test.true c.size-n.result c.size-n.ensures
+    let n = halving_needs a.region.now a.spare.now k.region k.spare a.lg a.v a.c k.at k.invariant c.requires.0 c.loop-at-test.true c.size-n.result c.size-n.ensures in
+    record { region_len = n.0; lg_bound = n.1 }
 
 pub overflow_sub-at-in-loop-at : goal.overflow_sub-at-in-loop-at
 overflow_sub-at-in-loop-at c = omega arith

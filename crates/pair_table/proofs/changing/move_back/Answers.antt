@@ -60,7 +60,7 @@ returns c = let j = c.loop-i.invariant in
     let e = c.args.spare.now in
     let n = c.args.n in (
       ext_get_or 0 c.loop-i.region e (j.1 ∙ c.requires.region_len.0) (λ k h. ⊎_elim
-          (λ (l : n ≤ k). j.6 k l ∙ c.requires.empty_from.0 k l (rw j.1 c h) ∙ sym (c.requires.empty_from.1 k l (rw (j.1, c.requires.region_len.0) c h)))
+          (λ (l : n ≤ k). j.6 k l ∙ c.requires.empty_from.0 k l (rw j.1 at h) ∙ sym (c.requires.empty_from.1 k l (rw (j.1, c.requires.region_len.0) at h)))
           (λ (l : k < n). j.3 k (omega (arith, c.loop-i-test.false)))
           (le_or_lt n k)),
       all_empty c.loop-i.spare _ j.2 (λ k h. ⊎_elim

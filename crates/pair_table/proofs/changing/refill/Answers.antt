@@ -7,6 +7,7 @@ use lib.ListN.{get_or, set, length, length-set}
 use Rattle.tables.specs.Changes.{fill, place}
 use Rattle.tables.proofs.Refilled.{fill_none, fill_one}
 use Rattle.pair_table.proofs.changing.refill.Goals as goal
+use Rattle.pair_table.proofs.changing.refill.Goals.{then-x, else-x}
 
 pub loop-i-init : goal.loop-i-init
 unfolding fill
@@ -35,19 +36,20 @@ loop-i-smaller c = omega arith
 
 pub loop-i-preserved : goal.loop-i-preserved
 unfolding place
-loop-i-preserved c = let a = c.args in
-    ⊎_elim
-    (λ w. (
-      omega arith,
-      ap length w.3 ∙ simp length-set c.loop-i.invariant.1,
-      w.3 ∙ ap (λ (q : ℕ). set c.loop-i.to q (get_or a.from.now c.loop-i.i 0)) w.2.ensures.0 ∙ rw c.loop-i.invariant.2 (sym (fill_one a.from.now c.loop-i.i a.to.now a.lg a.v w.0.taken)),
-    ))
-    (λ w. (omega arith, ap length w.1 ∙ c.loop-i.invariant.1, w.1 ∙ c.loop-i.invariant.2 ∙ sym (fill_none a.from.now c.loop-i.i a.to.now a.lg a.v w.0.left)))
-    c.if-x.branch
+loop-i-preserved c =
+    let a = c.args in
+    elim c.if-x.branch [
+      then-x w ↦ (
+        omega arith,
+        ap length w.to-is ∙ simp length-set c.loop-i.invariant.1,
+        w.to-is ∙ ap (λ (q : ℕ). set c.loop-i.to q (get_or a.from.now c.loop-i.i 0)) w.lookup-q.ensures.0 ∙ rw c.loop-i.invariant.2 (sym (fill_one a.from.now c.loop-i.i a.to.now a.lg a.v w.if-x.true)),
+      )
+    | else-x w ↦ (omega arith, ap length w.to-is ∙ c.loop-i.invariant.1, w.to-is ∙ c.loop-i.invariant.2 ∙ sym (fill_none a.from.now c.loop-i.i a.to.now a.lg a.v w.if-x.false))
+    ]
 
 pub shape_of-to : goal.shape_of-to
 shape_of-to c = c.loop-i.invariant.1
 
 pub returns : goal.returns
 returns c = let e : c.loop-i.i ≡ c.args.m = omega arith in
-    rw e c c.loop-i.invariant.2
+    rw e at c.loop-i.invariant.2

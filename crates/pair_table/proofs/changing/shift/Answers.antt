@@ -10,6 +10,7 @@ use Rattle.tables.specs.Slots.{home, next}
 use Rattle.tables.specs.Shapes.{apart}
 use Rattle.pair_table.proofs.Deleting.{Shifting, shift_begins, shift_ends, shift_out, shift_moves, shift_stays}
 use Rattle.pair_table.proofs.changing.shift.Goals as goal
+use Rattle.pair_table.proofs.changing.shift.Goals.{then-on_way, else-on_way}
 
 pub step-p-requires : goal.step-p-requires
 step-p-requires c = omega arith
@@ -61,7 +62,8 @@ pub loop-left-smaller : goal.loop-left-smaller
 loop-left-smaller c = omega arith
 
 pub loop-left-preserved : goal.loop-left-preserved
-loop-left-preserved c = let k = c.loop-left in
+loop-left-preserved c =
+    let k = c.loop-left in
     let z = k.invariant.0 in
     let m = c.loop-left-test.true in
     let f = c.if-y.false in
@@ -69,10 +71,10 @@ loop-left-preserved c = let k = c.loop-left in
     let e : c.step-p-in-loop-left.result ≡ next (2 ^ c.args.lg) k.p = c.step-p-in-loop-left.ensures.0 ∙ ap (λ (n : ℕ). next n k.p) z in
     let w : c.on_way.result ≡ leb (apart (2 ^ c.args.lg) k.h k.p) (apart (2 ^ c.args.lg) (home c.args.lg c.args.v y) k.p) = rw (z, c.home_of-home.ensures.0) at c.on_way.ensures in (
       z,
-      ⊎_elim
-          (λ i. rw (i.1, i.2) (shift_moves c.args.slots.now k.slots c.args.lg c.args.v c.args.hole k.h k.p k.left k.invariant.1 c.requires.le_lg.4 m f c.step-p-in-loop-left.result e (sym w ∙ i.0.taken)))
-          (λ i. rw (i.1, i.2) (shift_stays c.args.slots.now k.slots c.args.lg c.args.v c.args.hole k.h k.p k.left k.invariant.1 c.requires.le_lg.4 m f c.step-p-in-loop-left.result e (sym w ∙ i.0.left)))
-          c.if-on_way.branch,
+      elim c.if-on_way.branch [
+        then-on_way i ↦ rw (i.slots-is, i.h-is) (shift_moves c.args.slots.now k.slots c.args.lg c.args.v c.args.hole k.h k.p k.left k.invariant.1 c.requires.le_lg.4 m f c.step-p-in-loop-left.result e (sym w ∙ i.if-on_way.true))
+      | else-on_way i ↦ rw (i.slots-is, i.h-is) (shift_stays c.args.slots.now k.slots c.args.lg c.args.v c.args.hole k.h k.p k.left k.invariant.1 c.requires.le_lg.4 m f c.step-p-in-loop-left.result e (sym w ∙ i.if-on_way.false))
+      ],
     )
 
 pub shape_of-slots : goal.shape_of-slots

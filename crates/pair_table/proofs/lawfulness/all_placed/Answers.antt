@@ -9,6 +9,7 @@ use Rattle.tables.specs.Shapes.{AllPlaced, RunUp}
 use Rattle.tables.proofs.Laws.{says_yes, says_no, placed_more}
 use Rattle.tables.proofs.Paths.{run_none, run_more}
 use Rattle.pair_table.proofs.lawfulness.all_placed.Goals as goal
+use Rattle.pair_table.proofs.lawfulness.all_placed.Goals.{then-x, else-x+else-not-placed_at}
 
 pub tail_run-tail-requires : goal.tail_run-tail-requires
 tail_run-tail-requires c = omega (arith, pow_pos c.args.lg)
@@ -23,11 +24,11 @@ pub bounds-slots-p : goal.bounds-slots-p
 bounds-slots-p c = omega arith
 
 pub placed_at-requires : goal.placed_at-requires
-placed_at-requires c = record { le_lg = omega arith; p_bound = (omega arith, rw c.size-n.ensures c (c.loop-p.invariant.3 c.loop-p-test.true)) }
+placed_at-requires c = record { le_lg = omega arith; p_bound = (omega arith, rw c.size-n.ensures at (c.loop-p.invariant.3 c.loop-p-test.true)) }
 
 pub returns-then-not-placed_at : goal.returns-then-not-placed_at
 returns-then-not-placed_at c = let a = c.args in
-    says_no (λ (f : AllPlaced a.slots.now a.lg a.v (2 ^ a.lg)). c.placed_at_lem.ensures.fails (not-true _ c.if-not-placed_at.true-raw) (f c.loop-p.p (omega arith) c.if-x.false))
+    says_no (λ (f : AllPlaced a.slots.now a.lg a.v (2 ^ a.lg)). c.placed_at.ensures.fails (not-true _ c.if-not-placed_at.true-raw) (f c.loop-p.p (omega arith) c.if-x.false))
 
 pub overflow_add-len : goal.overflow_add-len
 overflow_add-len c = omega arith
@@ -39,17 +40,18 @@ pub loop-p-smaller : goal.loop-p-smaller
 loop-p-smaller c = omega arith
 
 pub loop-p-preserved : goal.loop-p-preserved
-loop-p-preserved c = let a = c.args in
+loop-p-preserved c =
+    let a = c.args in
     let u : RunUp a.slots.now c.size-n.result c.loop-p.p c.loop-p.len c.loop-p.top = c.loop-p.invariant.3 c.loop-p-test.true in
-    ⊎_elim
-    (λ w. (omega arith, omega arith, placed_more a.slots.now _ _ _ c.loop-p.invariant.2 (λ f. absurd (f w.0.taken)), λ h. rw (w.1, w.2) (run_none a.slots.now _ _ _ h)))
-    (λ w. (
-      omega arith,
-      omega arith,
-      placed_more a.slots.now _ _ _ c.loop-p.invariant.2 (λ f. w.1.ensures.holds (not-false _ w.2.left)),
-      λ h. rw (w.4, w.5) (run_more a.slots.now _ _ _ _ _ u w.3.ensures.0 w.0.left w.3.ensures.1 h),
-    ))
-    c.if-x.branch
+    elim c.if-x.branch [
+      then-x w ↦ (omega arith, omega arith, placed_more a.slots.now _ _ _ c.loop-p.invariant.2 (λ f. absurd (f w.if-x.true)), λ h. rw (w.len-is, w.top-is) (run_none a.slots.now _ _ _ h))
+    | else-x+else-not-placed_at w ↦ (
+        omega arith,
+        omega arith,
+        placed_more a.slots.now _ _ _ c.loop-p.invariant.2 (λ f. w.placed_at.ensures.holds (not-false _ w.if-not-placed_at.false-raw)),
+        λ h. rw (w.len-is, w.top-is) (run_more a.slots.now _ _ _ _ _ u w.larger-top.ensures.0 w.if-x.false w.larger-top.ensures.1 h),
+      )
+    ]
 
 pub returns : goal.returns
 returns c = says_yes (λ p l. c.loop-p.invariant.2 p (omega arith))

@@ -6,6 +6,7 @@ use native.Mathlib.Omega.{arith}
 use Rattle.tables.specs.Slots.{items, total}
 use Rattle.tables.proofs.Laws.{items_full, items_empty}
 use Rattle.pair_table.proofs.lawfulness.count_items.Goals as goal
+use Rattle.pair_table.proofs.lawfulness.count_items.Goals.{then-slots-i, else-slots-i}
 
 pub loop-i-init : goal.loop-i-init
 unfolding total
@@ -27,10 +28,10 @@ pub loop-i-smaller : goal.loop-i-smaller
 loop-i-smaller c = omega arith
 
 pub loop-i-preserved : goal.loop-i-preserved
-loop-i-preserved c = ⊎_elim
-    (λ w. (omega arith, w.1 ∙ ap (λ n. n + 1) c.loop-i.invariant.1 ∙ sym (items_full _ _ w.0.taken), omega arith))
-    (λ w. (omega arith, w.1 ∙ c.loop-i.invariant.1 ∙ sym (items_empty _ _ w.0.left), omega arith))
-    c.if-slots-i.branch
+loop-i-preserved c = elim c.if-slots-i.branch [
+      then-slots-i w ↦ (omega arith, w.c-is ∙ ap (λ n. n + 1) c.loop-i.invariant.1 ∙ sym (items_full _ _ w.if-slots-i.true), omega arith)
+    | else-slots-i w ↦ (omega arith, w.c-is ∙ c.loop-i.invariant.1 ∙ sym (items_empty _ _ w.if-slots-i.false), omega arith)
+    ]
 
 pub returns : goal.returns
 returns c = let e : c.loop-i.i ≡ c.args.n = omega arith in
