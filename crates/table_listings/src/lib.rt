@@ -2,6 +2,7 @@
 // After `unwrapping_get_items` in src/cpc/pair_table.rs and the walk in src/cpc/union.rs of the Rust crate datasketches 0.5.0 (Apache-2.0); changed: the items go to a lent output, and each call
 // is total and refuses by number.
 #![tactic(auto)]
+
 ghost use Rattle.std.specs.Prelude.{◌≡◌, [], ◌∷◌, ◌^◌, ◌≤◌};
 ghost use Rattle.refusals.specs.Outcome.{accepted, and_then};
 ghost use Rattle.tables.specs.Calls.{list_of_items, extract_into, walk_into};

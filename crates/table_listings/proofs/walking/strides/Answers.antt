@@ -2,12 +2,8 @@
 use mathlib.Core.Path.{refl}
 use Rattle.tables.specs.Listings.{stride_at}
 use Rattle.table_listings.proofs.Strides.{right_strides}
-use Rattle.table_listings.proofs.walking.strides.Statement.{statement}
-use Rattle.table_listings.proofs.walking.strides.Tie as tie
+use Rattle.table_listings.proofs.walking.strides.Goals as goal
 
-returns : tie.Need-returns
+pub returns : goal.returns
 unfolding stride_at
 returns c = right_strides _ refl tt
-
-pub strides-spec : {M : Type 1} → statement M
-strides-spec = tie.close (tie.spec returns)

@@ -1,0 +1,18 @@
+-- `table_listings::walking::walk_into`: what its loops keep true, and why they end. Assumes nothing.
+use mathlib.Core.Path.{◌≡◌, ◌∙◌}
+use mathlib.Core.Logic.{⊎_elim}
+use Prim.Native.Nat.{◌+◌, ◌-◌, ◌*◌, ◌^◌, ◌≤◌, ◌<◌, ◌%◌}
+use native.Mathlib.Omega.{arith}
+use lib.ListN.{length, get_or}
+use lib.Pow.{pow_pos, pow_mono}
+use Rattle.tables.specs.Slots.{empty, items}
+use Rattle.tables.specs.Listings.{stride_at}
+use Rattle.tables.specs.Shapes.{Walking}
+use Rattle.tables.proofs.Walking.{met_room, walking_start, walking_skip, walking_write, walking_end}
+use Rattle.table_listings.proofs.walking.walk_into.Given as goal
+
+abbrev pub invariant-loop-i : goal.invariant-loop-i
+invariant-loop-i l = ((l.n ≡ 2 ^ l.lg) × (l.g ≡ stride_at l.lg) × (l.g < l.n) × (l.i ≤ l.n) × (l.k < l.n)) × Walking l.region l.initial.out l.out l.lg l.i l.k l.r
+
+abbrev pub decreases-loop-i : goal.decreases-loop-i
+decreases-loop-i l = l.n - l.i
