@@ -1,6 +1,7 @@
 // The static library: the public calls for C and Rust, under the prefix `bridgenook_`. The result is 0 if the call is accepted, else document 01's number;
 // `answer` gets the place, the bit position, then the values of an accepted call, and zeros.
 #![tactic(auto)]
+
 mod answers;
 pub mod book_calls;
 pub mod number_calls;
