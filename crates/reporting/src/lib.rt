@@ -1,5 +1,6 @@
 // The small program's decisions: text in, text out, on lent slices.
 #![tactic(auto)]
+
 ghost use Rattle.std.specs.Prelude.{◌≡◌};
 ghost use Rattle.reporting.specs.Machine.{begun, held, taken_of};
 ghost use Rattle.reporting.specs.Calls.{told_decision, decided_as, decide_of, laid, said_into, line_of};

@@ -1,0 +1,19 @@
+-- `reporting::matching::follow_index` meets its contract. Assumes nothing.
+use mathlib.Core.Path.{sym, ◌∙◌}
+use Rattle.reporting.specs.Machine.{digits_move}
+use Rattle.reporting.specs.declared.Field.TheVariants as field
+use Rattle.reporting.proofs.Moving.{as_told}
+use borrow.Author.Rules.{rules}
+use Rattle.reporting.proofs.matching.follow_index.Goals as goal
+
+pub returns-then-is_index : goal.returns-then-is_index
+returns-then-is_index c = simp (sym c.ends.ensures ∙ c.if-ends.true, sym c.is_index.ensures ∙ c.if-is_index.true)
+
+pub returns-then-ends : goal.returns-then-ends
+returns-then-ends c = simp (sym c.ends.ensures ∙ c.if-ends.true, sym c.is_index.ensures ∙ c.if-is_index.false)
+
+pub returns-in-Are : goal.returns-in-Are
+returns-in-Are c = simp (sym c.ends.ensures ∙ c.if-ends.false) (as_told (digits_move field.Index) c.with_digit.ensures c.in-Are.is)
+
+pub returns-in-No : goal.returns-in-No
+returns-in-No c = simp (sym c.ends.ensures ∙ c.if-ends.false) (as_told (digits_move field.Index) c.with_digit.ensures c.in-No.is)
