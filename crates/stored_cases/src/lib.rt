@@ -3,6 +3,7 @@
 // and behind that ` ; list` for each part of lent memory that is compared: what it holds afterwards.
 // One space parts two words. `number` is the result, 0 where the call is accepted. Values left out at the end are 0.
 #![tactic(auto)]
+
 pub mod answers;
 mod items;
 pub mod lists;

@@ -1,0 +1,12 @@
+-- `stored_cases::runs::push_rising`: what its loops keep true, and why they end. Assumes nothing.
+use Prim.Native.Nat.{◌≤◌, ◌-◌}
+use mathlib.Core.Path.{◌≡◌}
+use borrow.Author.Rules.{rules}
+use lib.ListN.{length}
+use Rattle.stored_cases.proofs.runs.push_rising.Given as goal
+
+abbrev pub invariant-loop-done : goal.invariant-loop-done
+invariant-loop-done l = (l.done ≤ l.times) × (length l.list ≡ length l.initial.list)
+
+abbrev pub decreases-loop-done : goal.decreases-loop-done
+decreases-loop-done l = l.times - l.done

@@ -1,0 +1,11 @@
+-- `stored_cases::words::start`: what its loops keep true, and why they end. Assumes nothing.
+use Prim.Native.Nat.{◌≤◌, ◌-◌}
+use borrow.Author.Rules.{rules}
+use lib.ListN.{length}
+use Rattle.stored_cases.proofs.words.start.Given as goal
+
+abbrev pub invariant-loop-passed : goal.invariant-loop-passed
+invariant-loop-passed l = (l.at ≤ length l.line) × (l.passed ≤ l.i)
+
+abbrev pub decreases-loop-passed : goal.decreases-loop-passed
+decreases-loop-passed l = l.i - l.passed
