@@ -1,5 +1,6 @@
 // Stored cases of bridgenook's modules book_calls and practice_books.
 #![tactic(auto)]
+
 mod book_calls;
 mod practice_calls;
 

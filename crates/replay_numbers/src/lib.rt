@@ -1,5 +1,6 @@
 // Stored cases of bridgenook's modules unit_counts and number_calls.
 #![tactic(auto)]
+
 mod number_calls;
 mod unit_calls;
 

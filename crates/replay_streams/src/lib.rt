@@ -1,5 +1,6 @@
 // Stored cases of bridgenook's module stream_calls.
 #![tactic(auto)]
+
 use bridgenook::stream_calls;
 use stored_cases::lists::Filled;
 use stored_cases::verdicts::Verdict;

@@ -1,5 +1,6 @@
 // Stored cases of bridgenook's module table_calls. A table is written as its lg, valid bits and items, then its region and its spare.
 #![tactic(auto)]
+
 use bridgenook::table_calls;
 use stored_cases::lists::Filled;
 use stored_cases::verdicts::Verdict;

@@ -1,6 +1,7 @@
 // Stored cases of bridgenook's module union_calls. A union is written as its configured lg, present lg and seed, then its matrix; a source as its lg, seed and coupons, then
 // its window and its pairs.
 #![tactic(auto)]
+
 use bridgenook::union_calls;
 use stored_cases::lists::Filled;
 use stored_cases::verdicts::Verdict;
