@@ -1,6 +1,8 @@
 // A file of stored cases: read whole, then line by line.
 use super::calls;
-use libc::STDOUT_FILENO;
+use std::fs::File;
+use std::io;
+use std::io::Read;
 use stored_cases::lists::Filled;
 use stored_cases::verdicts::Verdict;
 use stored_cases::{lists_u8, verdicts, words};
@@ -11,38 +13,49 @@ struct Tally {
     agreed: u64,
 }
 
-fn is_at_end(file: i32) -> bool {
+fn is_at_end(file: &mut File) -> bool {
     let mut next = [0u8; 1];
-    libc::read(file, &mut next) == 0
+    matches!(file.read(&mut next), Ok(0))
+}
+
+// Reads until the text is full, the file ends or a read fails, and answers how many bytes it put at the start of the text.
+fn read_full(file: &mut File, text: &mut [u8]) -> usize {
+    let mut done = 0;
+    while done < text.len() {
+        match file.read(&mut text[done..]) {
+            Ok(0) => {
+                return done;
+            }
+            Ok(more) => {
+                done += more;
+            }
+            Err(_) => {
+                return done;
+            }
+        }
+    }
+    done
 }
 
 // Puts the file at the start of `text`. `No`: it cannot be read, or is longer.
-fn load(name: &[u8], text: &mut [u8]) -> Filled {
-    let file = os::open_read(name);
-    if file < 0 {
-        return Filled::No;
+fn load(rt: &HostRuntime, name: &str, text: &mut [u8]) -> Filled {
+    match File::open(rt, name) {
+        Ok(mut file) => {
+            let length = read_full(&mut file, text);
+            if is_at_end(&mut file) {
+                return Filled::To(length);
+            }
+            Filled::No
+        }
+        Err(_) => Filled::No,
     }
-    let length = io::read_full(file, text);
-    let whole = is_at_end(file);
-    libc::close(file);
-    if whole {
-        return Filled::To(length);
-    }
-    Filled::No
 }
 
-fn say(name: &[u8], line: u64, what: &[u8]) {
-    io::write_all(STDOUT_FILENO, name);
-    io::write_all(STDOUT_FILENO, b" line ");
-    io::print_decimal(STDOUT_FILENO, line);
-    io::write_all(STDOUT_FILENO, what);
-}
-
-fn report(name: &[u8], line: u64, verdict: Verdict) {
+fn report(rt: &HostRuntime, name: &str, line: u64, verdict: Verdict) -> io::Result<()> {
     match verdict {
-        Verdict::Agrees => {}
-        Verdict::Disagrees => say(name, line, b": disagrees\n"),
-        _ => say(name, line, b": not a case\n"),
+        Verdict::Agrees => Ok(()),
+        Verdict::Disagrees => println!(rt; "{name} line {line}: disagrees"),
+        _ => println!(rt; "{name} line {line}: not a case"),
     }
 }
 
@@ -53,16 +66,16 @@ fn is_comment(line: &[u8]) -> bool {
     line[0] == b'#'
 }
 
-fn replay_line(name: &[u8], number: u64, line: &[u8]) -> Verdict {
+fn replay_line(rt: &HostRuntime, name: &str, number: u64, line: &[u8]) -> io::Result<Verdict> {
     if is_comment(line) {
-        return Verdict::NotACase;
+        return Ok(Verdict::NotACase);
     }
     let verdict = calls::run(line);
-    report(name, number, verdict);
-    verdict
+    report(rt, name, number, verdict)?;
+    Ok(verdict)
 }
 
-fn replay_lines(name: &[u8], text: &[u8]) -> Tally {
+fn replay_lines(rt: &HostRuntime, name: &str, text: &[u8]) -> io::Result<Tally> {
     let mut ran = 0;
     let mut agreed = 0;
     let mut number = 0;
@@ -70,34 +83,20 @@ fn replay_lines(name: &[u8], text: &[u8]) -> Tally {
     while at < text.len() {
         let end = at + words::find(&text[at..], b'\n');
         number += 1;
-        let verdict = replay_line(name, number, &text[at..end]);
+        let verdict = replay_line(rt, name, number, &text[at..end])?;
         ran += verdicts::ran(verdict);
         agreed += verdicts::agreed(verdict);
         at = end + 1;
     }
-    Tally { ran, agreed }
+    Ok(Tally { ran, agreed })
 }
 
-fn sum_up(name: &[u8], tally: Tally) {
-    io::write_all(STDOUT_FILENO, name);
-    io::write_all(STDOUT_FILENO, b": ");
-    io::print_decimal(STDOUT_FILENO, tally.agreed);
-    io::write_all(STDOUT_FILENO, b" of ");
-    io::print_decimal(STDOUT_FILENO, tally.ran);
-    io::write_all(STDOUT_FILENO, b" cases agree\n");
-}
-
-pub fn replay(name: &[u8]) {
+pub fn replay(rt: &HostRuntime, name: &str) -> io::Result<()> {
     let mut space = [0u8; 262144];
     let text: &mut [u8] = &mut space;
-    let Filled::To(length) = load(name, text) else {
-        io::write_all(STDOUT_FILENO, name);
-        io::write_all(
-            STDOUT_FILENO,
-            b": cannot be read whole, so no case was run\n",
-        );
-        return;
+    let Filled::To(length) = load(rt, name, text) else {
+        return println!(rt; "{name}: cannot be read whole, so no case was run");
     };
-    let tally = replay_lines(name, lists_u8::front(text, length));
-    sum_up(name, tally);
+    let tally = replay_lines(rt, name, lists_u8::front(text, length))?;
+    println!(rt; "{name}: {} of {} cases agree", tally.agreed, tally.ran)
 }

@@ -1,8 +1,10 @@
 // The small program: standard input is read to its end, part by part, and what is decided of the whole is written line by line. All judging is `reporting`'s.
 #![tactic(auto)]
-use libc::{STDIN_FILENO, STDOUT_FILENO};
+
 use refusals::Refusal;
 use reporting::{Decision, LineAnswer, Progress};
+use std::io;
+use std::io::{Read, Write};
 
 #[derive(Clone, Copy)]
 enum Got {
@@ -12,40 +14,36 @@ enum Got {
 }
 
 // One part of the text, read and taken.
-fn read_part(progress: Progress, pairs: &mut [u32]) -> Got {
+fn read_part(rt: &HostRuntime, progress: Progress, pairs: &mut [u32]) -> io::Result<Got> {
     let mut part = [0u8; 4096];
-    let got = libc::read(STDIN_FILENO, &mut part);
-    if got < 0 {
-        os::fail(b"standard input");
-        return Got::Failed;
+    match rt.stdin().read(&mut part) {
+        Ok(0) => Ok(Got::End),
+        Ok(length) => Ok(Got::Part(reporting::take(progress, &part[..length], pairs))),
+        Err(error) => {
+            eprintln!(rt; "standard input: {error}")?;
+            Ok(Got::Failed)
+        }
     }
-    if got == 0 {
-        return Got::End;
-    }
-    let length = io::count(got, &part);
-    Got::Part(reporting::take(progress, &part[..length], pairs))
 }
 
-// A text that cannot be read to its end is refused. A proved loop has to end, and nothing says that an input does: the turns are counted down from a number
-// that no run uses up.
-fn read_text(pairs: &mut [u32]) -> Progress {
+// A text that cannot be read to its end is refused. A proved loop has to end, and nothing says that an input does: the turns are counted up to a number
+// that no run reaches.
+fn read_text(rt: &HostRuntime, pairs: &mut [u32]) -> io::Result<Progress> {
     let mut progress = reporting::begin();
-    let mut turns = u64::MAX;
-    while turns > 0 {
-        match read_part(progress, pairs) {
+    for _ in 0..u64::MAX {
+        match read_part(rt, progress, pairs)? {
             Got::Part(more) => {
                 progress = more;
-                turns -= 1;
             }
             Got::End => {
-                return progress;
+                return Ok(progress);
             }
             Got::Failed => {
-                return Progress::Refused(Refusal::NotLawful);
+                return Ok(Progress::Refused(Refusal::NotLawful));
             }
         }
     }
-    Progress::Refused(Refusal::NotLawful)
+    Ok(Progress::Refused(Refusal::NotLawful))
 }
 
 fn front(text: &[u8], length: u64) -> &[u8] {
@@ -57,32 +55,34 @@ fn front(text: &[u8], length: u64) -> &[u8] {
 }
 
 // Writes line i, and answers whether there was one.
-fn write_line(decision: Decision, stream: &[u8], i: u64) -> bool {
+fn write_line(rt: &HostRuntime, decision: Decision, stream: &[u8], i: u64) -> io::Result<bool> {
     let mut space = [0u8; 4096];
     let out: &mut [u8] = &mut space;
     match reporting::line(decision, stream, i, out) {
-        LineAnswer::Line(length) => io::write_all(STDOUT_FILENO, front(out, length)),
-        LineAnswer::End => false,
-        LineAnswer::Refused(_) => false,
-    }
-}
-
-fn write_lines(decision: Decision, stream: &[u8]) {
-    let mut i = 0;
-    while i < u64::MAX {
-        if !write_line(decision, stream, i) {
-            return;
+        LineAnswer::Line(length) => {
+            rt.stdout().write_all(front(out, length))?;
+            Ok(true)
         }
-        i += 1;
+        LineAnswer::End => Ok(false),
+        LineAnswer::Refused(_) => Ok(false),
     }
 }
 
-fn main() {
+fn write_lines(rt: &HostRuntime, decision: Decision, stream: &[u8]) -> io::Result<()> {
+    for i in 0..u64::MAX {
+        if !write_line(rt, decision, stream, i)? {
+            return Ok(());
+        }
+    }
+    Ok(())
+}
+
+fn main(rt: HostRuntime) -> io::Result<()> {
     let mut pair_space = [0u32; 4096];
     let pairs: &mut [u32] = &mut pair_space;
     let mut stream_space = [0u8; 16384];
     let stream: &mut [u8] = &mut stream_space;
-    let progress = read_text(pairs);
+    let progress = read_text(&rt, pairs)?;
     let decision = reporting::decide(progress, pairs, stream);
-    write_lines(decision, stream);
+    write_lines(&rt, decision, stream)
 }
