@@ -17,34 +17,26 @@ fn say_check(check: CheckAnswer, answer: &mut [u64; 8]) -> u32
     }
 }
 
-#[unsafe(no_mangle)]
-pub extern "C" fn bridgenook_check_book(book: &[u16], answer: &mut [u64; 8]) -> u32
+pub fn bridgenook_check_book(book: &[u16], answer: &mut [u64; 8]) -> u32
     ensures { Says (check_of book.now) result answer.new }
 {
     say_check(books::check_book(book), answer)
 }
 
-#[unsafe(no_mangle)]
-pub extern "C" fn bridgenook_check_table(book: &[u16], table: &[u16], answer: &mut [u64; 8]) -> u32
+pub fn bridgenook_check_table(book: &[u16], table: &[u16], answer: &mut [u64; 8]) -> u32
     ensures { Says (check_table_of book.now table.now) result answer.new }
 {
     say_check(books::check_table(book, table), answer)
 }
 
-#[unsafe(no_mangle)]
-pub extern "C" fn bridgenook_fill_table(
-    book: &[u16],
-    table: &mut [u16],
-    answer: &mut [u64; 8],
-) -> u32
+pub fn bridgenook_fill_table(book: &[u16], table: &mut [u16], answer: &mut [u64; 8]) -> u32
     ensures { Says (fill_of book.now table.old) result answer.new × (table.new ≡ filled book.now table.old) }
 {
     say_check(books::fill_table(book, table), answer)
 }
 
 // The part by where it starts in the set, and its length.
-#[unsafe(no_mangle)]
-pub extern "C" fn bridgenook_pick(set: &[u16], phase: u8, answer: &mut [u64; 8]) -> u32
+pub fn bridgenook_pick(set: &[u16], phase: u8, answer: &mut [u64; 8]) -> u32
     ensures { Says (pick_of set.now phase) result answer.new }
 {
     match books::pick_place(set, phase) {

@@ -1,4 +1,4 @@
-// The static library: the public calls for C and Rust, under the prefix `bridgenook_`. The result is 0 if the call is accepted, else document 01's number;
+// The public calls for C and Rust, under the prefix `bridgenook_`; `bridgenook_c` exports them. The result is 0 if the call is accepted, else document 01's number;
 // `answer` gets the place, the bit position, then the values of an accepted call, and zeros.
 #![tactic(auto)]
 

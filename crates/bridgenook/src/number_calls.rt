@@ -16,8 +16,7 @@ fn say_number(number: NumberAnswer, answer: &mut [u64; 8]) -> u32
     }
 }
 
-#[unsafe(no_mangle)]
-pub extern "C" fn bridgenook_rows(lg: u8, answer: &mut [u64; 8]) -> u32
+pub fn bridgenook_rows(lg: u8, answer: &mut [u64; 8]) -> u32
     ensures { Says (rows_of lg) result answer.new }
 {
     match numbers::rows(lg) {
@@ -26,8 +25,7 @@ pub extern "C" fn bridgenook_rows(lg: u8, answer: &mut [u64; 8]) -> u32
     }
 }
 
-#[unsafe(no_mangle)]
-pub extern "C" fn bridgenook_determine_flavor(lg: u8, coupons: u32, answer: &mut [u64; 8]) -> u32
+pub fn bridgenook_determine_flavor(lg: u8, coupons: u32, answer: &mut [u64; 8]) -> u32
     ensures { Says (flavor_of lg coupons) result answer.new }
 {
     match numbers::determine_flavor(lg, coupons) {
@@ -39,37 +37,25 @@ pub extern "C" fn bridgenook_determine_flavor(lg: u8, coupons: u32, answer: &mut
     }
 }
 
-#[unsafe(no_mangle)]
-pub extern "C" fn bridgenook_determine_correct_offset(
-    lg: u8,
-    coupons: u32,
-    answer: &mut [u64; 8],
-) -> u32
+pub fn bridgenook_determine_correct_offset(lg: u8, coupons: u32, answer: &mut [u64; 8]) -> u32
     ensures { Says (offset_of lg coupons) result answer.new }
 {
     say_number(numbers::determine_correct_offset(lg, coupons), answer)
 }
 
-#[unsafe(no_mangle)]
-pub extern "C" fn bridgenook_determine_pseudo_phase(
-    lg: u8,
-    coupons: u32,
-    answer: &mut [u64; 8],
-) -> u32
+pub fn bridgenook_determine_pseudo_phase(lg: u8, coupons: u32, answer: &mut [u64; 8]) -> u32
     ensures { Says (phase_of lg coupons) result answer.new }
 {
     say_number(numbers::determine_pseudo_phase(lg, coupons), answer)
 }
 
-#[unsafe(no_mangle)]
-pub extern "C" fn bridgenook_number_of_base_bits(lg: u8, pairs: u32, answer: &mut [u64; 8]) -> u32
+pub fn bridgenook_number_of_base_bits(lg: u8, pairs: u32, answer: &mut [u64; 8]) -> u32
     ensures { Says (base_bits_of lg pairs) result answer.new }
 {
     say_number(numbers::number_of_base_bits(lg, pairs), answer)
 }
 
-#[unsafe(no_mangle)]
-pub extern "C" fn bridgenook_most_bits(lg: u8, pairs: u32, answer: &mut [u64; 8]) -> u32
+pub fn bridgenook_most_bits(lg: u8, pairs: u32, answer: &mut [u64; 8]) -> u32
     ensures { Says (most_bits_of lg pairs) result answer.new }
 {
     match numbers::most_bits(lg, pairs) {

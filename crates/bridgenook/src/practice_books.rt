@@ -6,24 +6,21 @@ ghost use Rattle.bridgenook.specs.Exports.{Says, hand_out_of, handed_out};
 
 use super::answers;
 
-#[unsafe(no_mangle)]
-pub extern "C" fn bridgenook_practice_pair_book(out: &mut [u16], answer: &mut [u64; 8]) -> u32
+pub fn bridgenook_practice_pair_book(out: &mut [u16], answer: &mut [u64; 8]) -> u32
     ensures { Says (hand_out_of pair_book out.old) result answer.new × (out.new ≡ handed_out pair_book out.old) }
 {
     let book = practice::pair_book();
     answers::hand_out(&book, out, answer)
 }
 
-#[unsafe(no_mangle)]
-pub extern "C" fn bridgenook_practice_window_book(out: &mut [u16], answer: &mut [u64; 8]) -> u32
+pub fn bridgenook_practice_window_book(out: &mut [u16], answer: &mut [u64; 8]) -> u32
     ensures { Says (hand_out_of window_book out.old) result answer.new × (out.new ≡ handed_out window_book out.old) }
 {
     let book = practice::window_book();
     answers::hand_out(&book, out, answer)
 }
 
-#[unsafe(no_mangle)]
-pub extern "C" fn bridgenook_practice_pair_table(out: &mut [u16], answer: &mut [u64; 8]) -> u32
+pub fn bridgenook_practice_pair_table(out: &mut [u16], answer: &mut [u64; 8]) -> u32
     ensures { Says (hand_out_of (table_of pair_book) out.old) result answer.new × (out.new ≡ handed_out (table_of pair_book) out.old) }
 {
     let table = practice::pair_table();

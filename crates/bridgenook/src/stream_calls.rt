@@ -9,8 +9,7 @@ use super::answers;
 use compression::{ReadAnswer, WriteAnswer};
 use pair_lists::PairsAnswer;
 
-#[unsafe(no_mangle)]
-pub extern "C" fn bridgenook_judge_pairs(lg: u8, pairs: &[u32], answer: &mut [u64; 8]) -> u32
+pub fn bridgenook_judge_pairs(lg: u8, pairs: &[u32], answer: &mut [u64; 8]) -> u32
     ensures { Says (judge_pairs_of lg pairs.now) result answer.new }
 {
     match pair_lists::judge_pairs(lg, pairs) {
@@ -37,8 +36,7 @@ fn say_read(read: ReadAnswer, answer: &mut [u64; 8]) -> u32
     }
 }
 
-#[unsafe(no_mangle)]
-pub extern "C" fn bridgenook_write_pairs(
+pub fn bridgenook_write_pairs(
     book: &[u16],
     lg: u8,
     pairs: &[u32],
@@ -51,8 +49,7 @@ pub extern "C" fn bridgenook_write_pairs(
     say_write(compression::write_pairs(book, lg, pairs, out), answer)
 }
 
-#[unsafe(no_mangle)]
-pub extern "C" fn bridgenook_write_window(
+pub fn bridgenook_write_window(
     book: &[u16],
     lg: u8,
     window: &[u8],
@@ -65,8 +62,7 @@ pub extern "C" fn bridgenook_write_window(
     say_write(compression::write_window(book, lg, window, out), answer)
 }
 
-#[unsafe(no_mangle)]
-pub extern "C" fn bridgenook_read_pairs(
+pub fn bridgenook_read_pairs(
     book: &[u16],
     table: &[u16],
     lg: u8,
@@ -84,8 +80,7 @@ pub extern "C" fn bridgenook_read_pairs(
     )
 }
 
-#[unsafe(no_mangle)]
-pub extern "C" fn bridgenook_read_window(
+pub fn bridgenook_read_window(
     book: &[u16],
     table: &[u16],
     lg: u8,

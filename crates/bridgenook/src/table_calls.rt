@@ -48,8 +48,7 @@ fn say_list(list: ListAnswer, answer: &mut [u64; 8]) -> u32
     }
 }
 
-#[unsafe(no_mangle)]
-pub extern "C" fn bridgenook_table_new(
+pub fn bridgenook_table_new(
     lg: u8,
     valid: u8,
     region: &mut [u32],
@@ -63,8 +62,7 @@ pub extern "C" fn bridgenook_table_new(
     say_table(pair_table::new(lg, valid, region, spare), answer)
 }
 
-#[unsafe(no_mangle)]
-pub extern "C" fn bridgenook_table_build(
+pub fn bridgenook_table_build(
     valid: u8,
     list: &[u32],
     region: &mut [u32],
@@ -78,8 +76,7 @@ pub extern "C" fn bridgenook_table_build(
     say_table(pair_table::build(valid, list, region, spare), answer)
 }
 
-#[unsafe(no_mangle)]
-pub extern "C" fn bridgenook_table_insert(
+pub fn bridgenook_table_insert(
     lg: u8,
     valid: u8,
     items: u32,
@@ -96,8 +93,7 @@ pub extern "C" fn bridgenook_table_insert(
     say_change(pair_table::insert(table, region, spare, item), answer)
 }
 
-#[unsafe(no_mangle)]
-pub extern "C" fn bridgenook_table_delete(
+pub fn bridgenook_table_delete(
     lg: u8,
     valid: u8,
     items: u32,
@@ -114,8 +110,7 @@ pub extern "C" fn bridgenook_table_delete(
     say_change(pair_table::delete(table, region, spare, item), answer)
 }
 
-#[unsafe(no_mangle)]
-pub extern "C" fn bridgenook_table_extract(
+pub fn bridgenook_table_extract(
     lg: u8,
     valid: u8,
     items: u32,
@@ -131,8 +126,7 @@ pub extern "C" fn bridgenook_table_extract(
     say_list(table_listings::extract(table, region, spare, out), answer)
 }
 
-#[unsafe(no_mangle)]
-pub extern "C" fn bridgenook_table_walk(
+pub fn bridgenook_table_walk(
     lg: u8,
     valid: u8,
     items: u32,
@@ -148,8 +142,7 @@ pub extern "C" fn bridgenook_table_walk(
     say_list(table_listings::walk(table, region, spare, out), answer)
 }
 
-#[unsafe(no_mangle)]
-pub extern "C" fn bridgenook_table_clear(
+pub fn bridgenook_table_clear(
     lg: u8,
     valid: u8,
     items: u32,

@@ -7,8 +7,7 @@ ghost use Rattle.bridgenook.specs.Exports.{Says};
 use super::answers;
 use unions::{CountAnswer, CpcUnion, ExpandAnswer, Source, SplitAnswer, UnionAnswer};
 
-#[unsafe(no_mangle)]
-pub extern "C" fn bridgenook_count(lg: u8, matrix: &[u64], answer: &mut [u64; 8]) -> u32
+pub fn bridgenook_count(lg: u8, matrix: &[u64], answer: &mut [u64; 8]) -> u32
     ensures { Says (count_of lg matrix.now) result answer.new }
 {
     match unions::count(lg, matrix) {
@@ -35,8 +34,7 @@ fn say_split(split: SplitAnswer, answer: &mut [u64; 8]) -> u32
     }
 }
 
-#[unsafe(no_mangle)]
-pub extern "C" fn bridgenook_split(
+pub fn bridgenook_split(
     lg: u8,
     matrix: &[u64],
     window: &mut [u8],
@@ -50,8 +48,7 @@ pub extern "C" fn bridgenook_split(
     say_split(unions::split(lg, matrix, window, pairs), answer)
 }
 
-#[unsafe(no_mangle)]
-pub extern "C" fn bridgenook_expand(
+pub fn bridgenook_expand(
     lg: u8,
     coupons: u32,
     window: &[u8],
@@ -82,20 +79,13 @@ fn say_union(state: UnionAnswer, answer: &mut [u64; 8]) -> u32
     }
 }
 
-#[unsafe(no_mangle)]
-pub extern "C" fn bridgenook_new_union(
-    lg: u8,
-    seed: u64,
-    matrix: &mut [u64],
-    answer: &mut [u64; 8],
-) -> u32
+pub fn bridgenook_new_union(lg: u8, seed: u64, matrix: &mut [u64], answer: &mut [u64; 8]) -> u32
     ensures { Says (new_union_of lg seed matrix.old) result answer.new × (matrix.new ≡ new_matrix lg seed matrix.old) }
 {
     say_union(unions::new_union(lg, seed, matrix), answer)
 }
 
-#[unsafe(no_mangle)]
-pub extern "C" fn bridgenook_merge(
+pub fn bridgenook_merge(
     lg: u8,
     present: u8,
     seed: u64,

@@ -8,16 +8,14 @@ use super::answers;
 use refusals::units;
 use refusals::units::{Bits, Words};
 
-#[unsafe(no_mangle)]
-pub extern "C" fn bridgenook_words_for(bits: u64, answer: &mut [u64; 8]) -> u32
+pub fn bridgenook_words_for(bits: u64, answer: &mut [u64; 8]) -> u32
     ensures { Says (accepted (words_for bits ∷ [])) result answer.new }
 {
     let words = units::words_for(Bits(bits));
     answers::accept([words.0, 0, 0, 0, 0, 0], answer)
 }
 
-#[unsafe(no_mangle)]
-pub extern "C" fn bridgenook_bits_in(words: u64, answer: &mut [u64; 8]) -> u32
+pub fn bridgenook_bits_in(words: u64, answer: &mut [u64; 8]) -> u32
     ensures { Says (accepted (bits_in words ∷ [])) result answer.new }
 {
     let bits = units::bits_in(Words(words));

@@ -2,8 +2,7 @@
 ghost use Rattle.std.specs.Prelude.{◌≡◌};
 ghost use Rattle.bridgenook.specs.Version.{version};
 
-#[unsafe(no_mangle)]
-pub extern "C" fn bridgenook_version() -> u32
+pub fn bridgenook_version() -> u32
     ensures { result ≡ version }
 {
     1_000_000

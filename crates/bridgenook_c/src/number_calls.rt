@@ -1,0 +1,54 @@
+// Rows, flavor, offset, phase, base bits, and the most bits that n pairs take.
+ghost use Rattle.numbers.specs.Calls.{rows_of, flavor_of, offset_of, phase_of, base_bits_of, most_bits_of};
+ghost use Rattle.numbers.specs.Told.{told_number};
+ghost use Rattle.bridgenook.specs.Exports.{Says};
+
+#[unsafe(no_mangle)]
+pub extern "C" fn bridgenook_rows(lg: u8, answer: &mut [u64; 8]) -> u32
+    ensures { Says (rows_of lg) result answer.new }
+{
+    bridgenook::number_calls::bridgenook_rows(lg, answer)
+}
+
+#[unsafe(no_mangle)]
+pub extern "C" fn bridgenook_determine_flavor(lg: u8, coupons: u32, answer: &mut [u64; 8]) -> u32
+    ensures { Says (flavor_of lg coupons) result answer.new }
+{
+    bridgenook::number_calls::bridgenook_determine_flavor(lg, coupons, answer)
+}
+
+#[unsafe(no_mangle)]
+pub extern "C" fn bridgenook_determine_correct_offset(
+    lg: u8,
+    coupons: u32,
+    answer: &mut [u64; 8],
+) -> u32
+    ensures { Says (offset_of lg coupons) result answer.new }
+{
+    bridgenook::number_calls::bridgenook_determine_correct_offset(lg, coupons, answer)
+}
+
+#[unsafe(no_mangle)]
+pub extern "C" fn bridgenook_determine_pseudo_phase(
+    lg: u8,
+    coupons: u32,
+    answer: &mut [u64; 8],
+) -> u32
+    ensures { Says (phase_of lg coupons) result answer.new }
+{
+    bridgenook::number_calls::bridgenook_determine_pseudo_phase(lg, coupons, answer)
+}
+
+#[unsafe(no_mangle)]
+pub extern "C" fn bridgenook_number_of_base_bits(lg: u8, pairs: u32, answer: &mut [u64; 8]) -> u32
+    ensures { Says (base_bits_of lg pairs) result answer.new }
+{
+    bridgenook::number_calls::bridgenook_number_of_base_bits(lg, pairs, answer)
+}
+
+#[unsafe(no_mangle)]
+pub extern "C" fn bridgenook_most_bits(lg: u8, pairs: u32, answer: &mut [u64; 8]) -> u32
+    ensures { Says (most_bits_of lg pairs) result answer.new }
+{
+    bridgenook::number_calls::bridgenook_most_bits(lg, pairs, answer)
+}
