@@ -1,5 +1,5 @@
 -- What the calls on matrices and unions answer, and what they leave. Assumes nothing.
-use Rattle.std.specs.Prelude.{ℕ, ◌+◌, ◌*◌, ◌%◌, ◌^◌, min, Bool, not, ◌&&◌, ◌||◌, List, [], ◌∷◌, ◌++◌, map, eqb, leb, ltb, length, get_or, drop, replicate}
+use Rattle.std.specs.Prelude.{ℕ, ◌*◌, ◌%◌, ◌^◌, min, Bool, not, ◌&&◌, ◌||◌, List, [], ◌∷◌, ◌++◌, map, eqb, leb, ltb, length, get_or, drop, replicate}
 use Rattle.laws.specs.Choose.{choose}
 use Rattle.laws.specs.Below.{every_below, any_below}
 use Rattle.refusals.specs.Outcome.{Outcome, accepted, refused, if_accepted, and_then}

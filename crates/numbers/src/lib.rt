@@ -1,6 +1,7 @@
 // The numbers of document 01: flavor, offset, phase and base bits; and the bits that n pairs are granted.
 // After src/cpc/mod.rs and src/cpc/compression.rs of the Rust crate datasketches 0.5.0 (Apache-2.0); changed: each call is total and refuses by number.
 #![tactic(auto)]
+
 ghost use Rattle.std.specs.Prelude.{◌≡◌};
 ghost use Rattle.numbers.specs.Told.{told_rows, told_flavor, told_number, told_most};
 ghost use Rattle.numbers.specs.Calls.{rows_of, flavor_of, offset_of, phase_of, base_bits_of, most_bits_of};

@@ -1,5 +1,6 @@
 // Document 01's refusals. Each answer of a public call that can refuse holds a `Refusal`.
 #![tactic(auto)]
+
 ghost use Rattle.std.specs.Prelude.{◌≡◌};
 ghost use Rattle.refusals.specs.Outcome.{numbers_in};
 ghost use Rattle.refusals.specs.Told.{told};

@@ -32,7 +32,6 @@ use Rattle.reporting.specs.Asked.{Asked, asked, unasked, no_more}
 use Rattle.reporting.specs.Report.{flavor_name, offset_name, base_bits_name, bits_name, words_name, flavor_word, head_lines, word_line, word_lines, report_lines, refused_lines, lines_of, answered}
 use Rattle.reporting.specs.Machine.{done}
 use Rattle.reporting.specs.Calls.{told_decision, Decided, decided_as, written_of, read_decided, decide_of, Said, says, ended, nth, report_head, word_said, report_said, line_of}
-use Rattle.reporting.specs.declared.Reading.{Reading}
 use Rattle.reporting.specs.declared.Progress.{Progress}
 use Rattle.reporting.specs.declared.Progress.TheVariants as progress
 use Rattle.reporting.specs.declared.Report.{Report}

@@ -14,7 +14,7 @@ use Rattle.laws.specs.Choose.{choose}
 use Rattle.laws.proofs.Orders.{lt_or_le, same_or_not}
 use Rattle.reporting.specs.Lines.{newline, equals}
 use Rattle.reporting.specs.Asked.{Found, found, wrong, digit_follows, digits_to, decimal_to, after}
-use Rattle.reporting.specs.Machine.{none, name_of, named, after_name, letter_move, digits_move, move_of, begun}
+use Rattle.reporting.specs.Machine.{none, name_of, named, after_name, letter_move, digits_move, move_of}
 use Rattle.reporting.specs.declared.Field.{Field}
 use Rattle.reporting.specs.declared.Field.TheVariants as field
 use Rattle.reporting.specs.declared.matching.Move.{Move}

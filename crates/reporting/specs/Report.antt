@@ -1,5 +1,5 @@
 -- What the program writes. Assumes nothing.
-use Rattle.std.specs.Prelude.{ℕ, zero, suc, ◌+◌, ◌*◌, ◌^◌, List, [], ◌∷◌, ◌++◌, length}
+use Rattle.std.specs.Prelude.{ℕ, zero, suc, ◌*◌, ◌^◌, List, [], ◌∷◌, ◌++◌, length}
 use Rattle.refusals.specs.Outcome.{Outcome, accepted, refused, stopped, and_then}
 use Rattle.refusals.specs.Units.{words_for}
 use Rattle.numbers.specs.Numbers.{flavor_at, offset_at, base_bits_at}

@@ -4,7 +4,6 @@ use Prim.Native.Nat.{ℕ}
 use lib.Dec.{eqb}
 use Rattle.books.specs.Steps.{ShapesBy, taken}
 use Rattle.books.proofs.Verdicts.{misshapen_judged, shaped_judged}
-use borrow.Author.Rules.{rules}
 use Rattle.books.proofs.judge_shapes.Goals as goal
 
 pub returns-in-Misshapen : goal.returns-in-Misshapen

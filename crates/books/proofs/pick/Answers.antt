@@ -3,7 +3,6 @@ use native.Mathlib.Omega.{arith}
 use mathlib.Core.Path.{◌≡◌, sym, ap, ◌∙◌}
 use Prim.Native.Nat.{◌*◌, ◌≤◌}
 use lib.ListN.{length}
-use borrow.Author.Rules.{rules}
 use Rattle.books.specs.Told.{told_pick}
 use Rattle.books.proofs.Picking.{picked_at, handed, nothing}
 use Rattle.books.proofs.pick.Goals as goal
@@ -18,10 +17,10 @@ pub slice_bounds-result-end-in-At : goal.slice_bounds-result-end-in-At
 slice_bounds-result-end-in-At c = let f = (let found : (length c.args.set.now ≡ 5632) × (c.args.phase ≤ 21) × (c.in-At.start ≡ c.args.phase * 256) = let a = c.args in picked_at a.set.now a.phase c.in-At.start (sym (ap told_pick c.in-At.is) ∙ c.pick_place.ensures) in found) in omega (arith, f.0, f.1, f.2)
 
 pub returns-in-Refused : goal.returns-in-Refused
-returns-in-Refused c =    let a = c.args in
+returns-in-Refused c = let a = c.args in
     nothing a.set.now a.phase c.in-Refused.field-0 (sym (ap told_pick c.in-Refused.is) ∙ c.pick_place.ensures)
 
 pub returns-in-At : goal.returns-in-At
-returns-in-At c =    let a = c.args in
+returns-in-At c = let a = c.args in
     handed a.set.now a.phase c.in-At.start
     (sym (ap told_pick c.in-At.is) ∙ c.pick_place.ensures)

@@ -1,7 +1,6 @@
 -- `books::pick_place` meets its contract. Assumes nothing.
 use native.Mathlib.Omega.{arith}
 use mathlib.Core.Path.{sym}
-use borrow.Author.Rules.{rules}
 use Rattle.books.proofs.Picking.{wrong_length, no_phase, picks}
 use Rattle.books.proofs.pick_place.Goals as goal
 

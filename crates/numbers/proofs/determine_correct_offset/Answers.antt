@@ -1,7 +1,6 @@
 -- `numbers::determine_correct_offset` meets its contract. Assumes nothing.
 use Prim.Native.Nat.{◌*◌, ◌^◌, ◌<◌}
 use native.Mathlib.Omega.{arith}
-use borrow.Author.Rules.{rules}
 use borrow.Author.Tests.{lt-ltb, le-ltb}
 use Rattle.numbers.specs.Calls.{offset_of}
 use Rattle.numbers.proofs.RowsTold.{RowsAt, matched_rows, matched_refused}
@@ -12,7 +11,7 @@ overflow_mul-k c = omega (arith, (let k_at : RowsAt c.args.lg c.in-Rows.k = matc
 
 pub returns-then-k-coupons : goal.returns-then-k-coupons
 unfolding offset_of
-returns-then-k-coupons c =    let a = c.args in
+returns-then-k-coupons c = let a = c.args in
     let at = (let k_at : RowsAt c.args.lg c.in-Rows.k = matched_rows c.rows.ensures c.in-Rows.is in k_at) in
     let more : 64 * 2 ^ a.lg < a.coupons = omega arith in
     simp (at.inside, lt-ltb _ _ more)

@@ -1,6 +1,5 @@
 -- `numbers::most_bits` meets its contract. Assumes nothing.
 use native.Mathlib.Omega.{arith}
-use borrow.Author.Rules.{rules}
 use borrow.Author.Tests.{lt-ltb, le-ltb}
 use Rattle.numbers.specs.Calls.{most_bits_of}
 use Rattle.numbers.proofs.RowsTold.{RowsAt, matched_rows, matched_refused}
@@ -19,5 +18,5 @@ returns-in-Refused c = matched_refused _ c.rows.ensures c.in-Refused.is _
 
 pub returns-else-pairs-gt268435456 : goal.returns-else-pairs-gt268435456
 unfolding most_bits_of
-returns-else-pairs-gt268435456 c =    let at = (let k_at : RowsAt c.args.lg c.in-Rows.k = matched_rows c.rows.ensures c.in-Rows.is in k_at) in
+returns-else-pairs-gt268435456 c = let at = (let k_at : RowsAt c.args.lg c.in-Rows.k = matched_rows c.rows.ensures c.in-Rows.is in k_at) in
     simp (at.inside, ← at.power, le-ltb _ _ c.if-pairs-gt268435456.false, c.words_for.ensures, c.most_bits_at.ensures)

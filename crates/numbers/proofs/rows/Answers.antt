@@ -1,6 +1,5 @@
 -- `numbers::rows` meets its contract. Assumes nothing.
 use native.Mathlib.Omega.{arith}
-use borrow.Author.Rules.{rules}
 use borrow.Author.Tests.{lt-ltb, le-ltb}
 use Rattle.laws.proofs.Shifts.{one_shl}
 use Rattle.numbers.specs.Calls.{rows_of}

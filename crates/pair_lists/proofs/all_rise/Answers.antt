@@ -1,9 +1,6 @@
 -- `pair_lists::all_rise` meets its contract. Assumes nothing.
-use borrow.Author.Rules.{rules}
 use native.Mathlib.Omega.{arith}
-use Prim.Native.Nat.{◌-◌}
-use lib.ListN.{length}
-use Rattle.pair_lists.proofs.RisingPairs.{Rising, rising_start, rising_turn, rising_end}
+use Rattle.pair_lists.proofs.RisingPairs.{rising_start, rising_turn, rising_end}
 use Rattle.pair_lists.proofs.all_rise.Goals as goal
 
 pub loop-i-init : goal.loop-i-init

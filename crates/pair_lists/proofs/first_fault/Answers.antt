@@ -1,9 +1,7 @@
 -- `pair_lists::first_fault` meets its contract. Assumes nothing.
-use borrow.Author.Rules.{rules}
 use native.Mathlib.Omega.{arith}
 use mathlib.Core.Path.{sym, subst}
-use Prim.Native.Nat.{ℕ, ◌+◌, ◌-◌}
-use lib.ListN.{length}
+use Prim.Native.Nat.{ℕ, ◌+◌}
 use Rattle.pair_lists.proofs.Judging.{Judging, judging_start, judging_end, judging_turn, row_stops, order_stops, reserved_stops}
 use Rattle.pair_lists.proofs.first_fault.Goals as goal
 

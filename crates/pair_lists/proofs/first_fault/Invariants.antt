@@ -1,10 +1,7 @@
 -- `pair_lists::first_fault`: what its loops keep true, and why they end. Assumes nothing.
-use borrow.Author.Rules.{rules}
-use native.Mathlib.Omega.{arith}
-use mathlib.Core.Path.{sym, subst}
-use Prim.Native.Nat.{ℕ, ◌+◌, ◌-◌}
+use Prim.Native.Nat.{◌-◌}
 use lib.ListN.{length}
-use Rattle.pair_lists.proofs.Judging.{Judging, judging_start, judging_end, judging_turn, row_stops, order_stops, reserved_stops}
+use Rattle.pair_lists.proofs.Judging.{Judging}
 use Rattle.pair_lists.proofs.first_fault.Given as goal
 
 abbrev pub invariant-loop-i : goal.invariant-loop-i

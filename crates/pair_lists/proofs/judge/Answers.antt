@@ -1,5 +1,4 @@
 -- `pair_lists::judge` meets its contract. Assumes nothing.
-use borrow.Author.Rules.{rules}
 use mathlib.Core.Path.{sym}
 use Rattle.pair_lists.proofs.judge.Goals as goal
 

@@ -1,5 +1,4 @@
 -- `pair_lists::still_rises` meets its contract. Assumes nothing.
-use borrow.Author.Rules.{rules}
 use mathlib.Core.Bool.{false≢true}
 use Rattle.pair_lists.proofs.still_rises.Goals as goal
 

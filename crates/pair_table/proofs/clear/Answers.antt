@@ -1,7 +1,5 @@
 -- `pair_table::clear` meets its contract. Assumes nothing.
 use mathlib.Core.Path.{◌≡◌, refl}
-use Prim.Native.Nat.{◌-◌}
-use borrow.Author.Rules.{rules}
 use Rattle.tables.specs.Calls.{table_judged, clear_of, record_of}
 use Rattle.pair_table.proofs.Judging.{judged_refused, judged_passes}
 use Rattle.pair_table.proofs.Called.{table_refused, table_made}

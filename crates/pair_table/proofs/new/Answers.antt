@@ -1,7 +1,5 @@
 -- `pair_table::new` meets its contract. Assumes nothing.
 use mathlib.Core.Path.{◌≡◌, ap, ◌∙◌}
-use Prim.Native.Nat.{◌-◌}
-use borrow.Author.Rules.{rules}
 use Rattle.refusals.specs.Outcome.{and_then}
 use Rattle.refusals.specs.Told.{told}
 use Rattle.tables.specs.Calls.{new_of, record_of}

@@ -2,7 +2,6 @@
 use mathlib.Core.Path.{sym, ap, ◌∙◌}
 use Rattle.reporting.specs.Calls.{decide_of}
 use Rattle.reporting.specs.declared.Progress.{Progress}
-use borrow.Author.Rules.{rules}
 use Rattle.reporting.proofs.decide.Goals as goal
 
 pub returns-in-Refused : goal.returns-in-Refused

@@ -2,7 +2,6 @@
 use mathlib.Core.Path.{sym, ap, ◌∙◌}
 use Rattle.reporting.specs.Calls.{said_into, line_of}
 use Rattle.reporting.specs.declared.Decision.{Decision}
-use borrow.Author.Rules.{rules}
 use Rattle.reporting.proofs.line.Goals as goal
 
 pub returns-in-Written : goal.returns-in-Written

@@ -1,9 +1,8 @@
 -- `reporting::take` meets its contract. Assumes nothing.
-use Prim.Native.Nat.{◌-◌, ◌≤◌}
-use mathlib.Core.Path.{◌≡◌, refl, ◌∙◌}
+use Prim.Native.Nat.{◌≤◌}
+use mathlib.Core.Path.{refl, ◌∙◌}
 use native.Mathlib.Omega.{arith}
-use borrow.Author.Rules.{rules}
-use lib.ListN.{length, drop, drop_of_length-le}
+use lib.ListN.{length, drop_of_length-le}
 use Rattle.reporting.specs.Machine.{taken_of}
 use Rattle.reporting.proofs.Stepping.{taken_turn, taken_end}
 use Rattle.reporting.proofs.take.Goals as goal

@@ -1,11 +1,8 @@
 -- `reporting::take`: what its loops keep true, and why they end. Assumes nothing.
-use Prim.Native.Nat.{◌-◌, ◌≤◌}
-use mathlib.Core.Path.{◌≡◌, refl, ◌∙◌}
-use native.Mathlib.Omega.{arith}
-use borrow.Author.Rules.{rules}
-use lib.ListN.{length, drop, drop_of_length-le}
+use Prim.Native.Nat.{◌-◌}
+use mathlib.Core.Path.{◌≡◌}
+use lib.ListN.{length, drop}
 use Rattle.reporting.specs.Machine.{taken_of}
-use Rattle.reporting.proofs.Stepping.{taken_turn, taken_end}
 use Rattle.reporting.proofs.take.Given as goal
 
 abbrev pub invariant-loop-i : goal.invariant-loop-i

@@ -1,11 +1,6 @@
 -- `books::decoding::enter`: what its loops keep true, and why they end. Assumes nothing.
-use native.Mathlib.Omega.{arith}
-use mathlib.Core.Path.{◌≡◌}
-use Prim.Native.Nat.{◌-◌, ◌*◌, ◌/◌, ◌%◌, ◌^◌}
-use Rattle.laws.proofs.Shifts.{one_shl}
-use Rattle.books.specs.Book.{length_in}
-use Rattle.books.proofs.Filling.{Entering, entering_start, entering_turn, entering_end}
-use borrow.Author.Rules.{rules}
+use Prim.Native.Nat.{◌-◌}
+use Rattle.books.proofs.Filling.{Entering}
 use Rattle.books.proofs.decoding.enter.Given as goal
 
 abbrev pub invariant-loop-n : goal.invariant-loop-n

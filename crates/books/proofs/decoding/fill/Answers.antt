@@ -1,12 +1,9 @@
 -- `books::decoding::fill` meets its contract. Assumes nothing.
 use native.Mathlib.Omega.{arith}
 use mathlib.Core.Path.{sym, ◌∙◌, subst}
-use Prim.Native.Nat.{◌-◌}
-use lib.ListN.{length}
 use Rattle.books.specs.Steps.{Shape}
 use Rattle.books.proofs.Agreement.{whole}
-use Rattle.books.proofs.Filling.{Filling, filling_start, filling_turn, filling_end}
-use borrow.Author.Rules.{rules}
+use Rattle.books.proofs.Filling.{filling_start, filling_turn, filling_end}
 use Rattle.books.proofs.decoding.fill.Goals as goal
 
 pub loop-x-init : goal.loop-x-init

@@ -1,12 +1,7 @@
 -- `books::decoding::fill`: what its loops keep true, and why they end. Assumes nothing.
-use native.Mathlib.Omega.{arith}
-use mathlib.Core.Path.{sym, ◌∙◌, subst}
 use Prim.Native.Nat.{◌-◌}
 use lib.ListN.{length}
-use Rattle.books.specs.Steps.{Shape}
-use Rattle.books.proofs.Agreement.{whole}
-use Rattle.books.proofs.Filling.{Filling, filling_start, filling_turn, filling_end}
-use borrow.Author.Rules.{rules}
+use Rattle.books.proofs.Filling.{Filling}
 use Rattle.books.proofs.decoding.fill.Given as goal
 
 abbrev pub invariant-loop-x : goal.invariant-loop-x

@@ -8,7 +8,6 @@ use Rattle.books.specs.Table.{is_table_of}
 use Rattle.books.specs.Steps.{Decides, Stands, AllRepeat}
 use Rattle.books.proofs.Deciding.{decides_is}
 use Rattle.books.proofs.Repeating.{table_passes, table_stands, table_repeats}
-use borrow.Author.Rules.{rules}
 use Rattle.books.proofs.decoding.is_table.Goals as goal
 
 pub returns-then-not-stands : goal.returns-then-not-stands

@@ -1,10 +1,8 @@
 -- `books::decoding::level_repeats` meets its contract. Assumes nothing.
 use native.Mathlib.Omega.{arith}
 use mathlib.Core.Path.{refl}
-use Prim.Native.Nat.{◌-◌}
 use lib.Dec.{eqb}
-use Rattle.books.proofs.Repeating.{Counted, counted_start, counted_turn, counted_end}
-use borrow.Author.Rules.{rules}
+use Rattle.books.proofs.Repeating.{counted_start, counted_turn, counted_end}
 use Rattle.books.proofs.decoding.level_repeats.Goals as goal
 
 pub loop-m-init : goal.loop-m-init

@@ -1,10 +1,6 @@
 -- `books::decoding::level_repeats`: what its loops keep true, and why they end. Assumes nothing.
-use native.Mathlib.Omega.{arith}
-use mathlib.Core.Path.{refl}
 use Prim.Native.Nat.{◌-◌}
-use lib.Dec.{eqb}
-use Rattle.books.proofs.Repeating.{Counted, counted_start, counted_turn, counted_end}
-use borrow.Author.Rules.{rules}
+use Rattle.books.proofs.Repeating.{Counted}
 use Rattle.books.proofs.decoding.level_repeats.Given as goal
 
 abbrev pub invariant-loop-m : goal.invariant-loop-m

@@ -1,12 +1,10 @@
 -- `books::decoding::repeats` meets its contract. Assumes nothing.
 use native.Mathlib.Omega.{arith}
-use mathlib.Core.Path.{◌≡◌, refl, subst}
-use Prim.Native.Nat.{ℕ, ◌+◌, ◌-◌, ◌*◌, ◌^◌, ◌≤◌, ◌<◌}
+use mathlib.Core.Path.{refl, subst}
 use borrow.Author.Tests.{not-true, not-false}
 use Rattle.laws.proofs.Powers.{half_most, twice_half}
 use Rattle.books.specs.Steps.{Decides, Repeats}
 use Rattle.books.proofs.Repeating.{levels_turn, levels_stop}
-use borrow.Author.Rules.{rules}
 use Rattle.books.proofs.decoding.repeats.Goals as goal
 
 pub loop-bits-init : goal.loop-bits-init

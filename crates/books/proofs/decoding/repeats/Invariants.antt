@@ -1,12 +1,7 @@
 -- `books::decoding::repeats`: what its loops keep true, and why they end. Assumes nothing.
-use native.Mathlib.Omega.{arith}
-use mathlib.Core.Path.{◌≡◌, refl, subst}
+use mathlib.Core.Path.{◌≡◌}
 use Prim.Native.Nat.{ℕ, ◌+◌, ◌-◌, ◌*◌, ◌^◌, ◌≤◌, ◌<◌}
-use borrow.Author.Tests.{not-true, not-false}
-use Rattle.laws.proofs.Powers.{half_most, twice_half}
-use Rattle.books.specs.Steps.{Decides, Repeats}
-use Rattle.books.proofs.Repeating.{levels_turn, levels_stop}
-use borrow.Author.Rules.{rules}
+use Rattle.books.specs.Steps.{Repeats}
 use Rattle.books.proofs.decoding.repeats.Given as goal
 
 abbrev pub invariant-loop-bits : goal.invariant-loop-bits

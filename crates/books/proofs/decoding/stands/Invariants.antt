@@ -1,12 +1,9 @@
 -- `books::decoding::stands`: what its loops keep true, and why they end. Assumes nothing.
-use native.Mathlib.Omega.{arith}
-use mathlib.Core.Path.{◌≡◌, sym, ap, ◌∙◌, subst}
-use Prim.Native.Nat.{ℕ, ◌+◌, ◌-◌, ◌*◌, ◌%◌, ◌≤◌, ◌<◌}
-use borrow.Author.Count.{below_more}
+use mathlib.Core.Path.{◌≡◌}
+use Prim.Native.Nat.{ℕ, ◌-◌, ◌≤◌, ◌<◌}
 use lib.ListN.{length, get_or}
-use Rattle.books.specs.Book.{length_in, codeword_in}
-use Rattle.books.specs.Steps.{Shape, entry_of}
-use borrow.Author.Rules.{rules}
+use Rattle.books.specs.Book.{codeword_in}
+use Rattle.books.specs.Steps.{entry_of}
 use Rattle.books.proofs.decoding.stands.Given as goal
 
 abbrev pub invariant-loop-x : goal.invariant-loop-x

@@ -1,11 +1,6 @@
 -- `books::marks::all_marked` meets its contract. Assumes nothing.
 use native.Mathlib.Omega.{arith}
-use mathlib.Core.Path.{◌≡◌}
-use mathlib.Core.Bool.{true}
-use Prim.Native.Nat.{ℕ, ◌+◌, ◌-◌, ◌/◌, ◌≤◌, ◌<◌}
-use Rattle.books.specs.Steps.{marked, mark_of}
 use Rattle.books.proofs.Spreading.{full_turn, full_stop}
-use borrow.Author.Rules.{rules}
 use Rattle.books.proofs.marks.all_marked.Goals as goal
 
 pub loop-w-init : goal.loop-w-init

@@ -1,11 +1,8 @@
 -- `books::marks::all_marked`: what its loops keep true, and why they end. Assumes nothing.
-use native.Mathlib.Omega.{arith}
 use mathlib.Core.Path.{◌≡◌}
 use mathlib.Core.Bool.{true}
 use Prim.Native.Nat.{ℕ, ◌+◌, ◌-◌, ◌/◌, ◌≤◌, ◌<◌}
 use Rattle.books.specs.Steps.{marked, mark_of}
-use Rattle.books.proofs.Spreading.{full_turn, full_stop}
-use borrow.Author.Rules.{rules}
 use Rattle.books.proofs.marks.all_marked.Given as goal
 
 abbrev pub invariant-loop-w : goal.invariant-loop-w

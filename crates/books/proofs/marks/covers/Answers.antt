@@ -8,10 +8,10 @@ use borrow.Author.Rules.{rules}
 use Rattle.books.proofs.marks.covers.Goals as goal
 
 pub mark_all-requires : goal.mark_all-requires
-mark_all-requires c =    (c.requires.0, search rules, unmarked)
+mark_all-requires c = (c.requires.0, search rules, unmarked)
 
 pub returns : goal.returns
-returns c =    let b = c.args.book.now in
+returns c = let b = c.args.book.now in
     let marks = c.mark_all.new.marks in
     let after = c.spread.new.marks in
     decides_is (Full after) c.all_marked.result (one_symbol_each b) c.all_marked.ensures

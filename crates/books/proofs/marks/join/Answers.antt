@@ -1,12 +1,11 @@
 -- `books::marks::join` meets its contract. Assumes nothing.
 use native.Mathlib.Omega.{arith}
-use mathlib.Core.Path.{◌≡◌, refl, ◌∙◌, subst}
-use Prim.Native.Nat.{◌+◌, ◌-◌, ◌≤◌}
-use lib.ListN.{length, get_or, length-set}
+use mathlib.Core.Path.{refl, ◌∙◌, subst}
+use Prim.Native.Nat.{◌+◌}
+use lib.ListN.{get_or, length-set}
 use lib.Bits.{bit_or}
 use Rattle.books.specs.Steps.{Joined}
 use Rattle.books.proofs.Spreading.{joined_start, joined_turn}
-use borrow.Author.Rules.{rules}
 use Rattle.books.proofs.marks.join.Goals as goal
 
 pub loop-i-init : goal.loop-i-init

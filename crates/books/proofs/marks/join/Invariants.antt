@@ -1,12 +1,8 @@
 -- `books::marks::join`: what its loops keep true, and why they end. Assumes nothing.
-use native.Mathlib.Omega.{arith}
-use mathlib.Core.Path.{◌≡◌, refl, ◌∙◌, subst}
-use Prim.Native.Nat.{◌+◌, ◌-◌, ◌≤◌}
-use lib.ListN.{length, get_or, length-set}
-use lib.Bits.{bit_or}
+use mathlib.Core.Path.{◌≡◌}
+use Prim.Native.Nat.{◌-◌, ◌≤◌}
+use lib.ListN.{length}
 use Rattle.books.specs.Steps.{Joined}
-use Rattle.books.proofs.Spreading.{joined_start, joined_turn}
-use borrow.Author.Rules.{rules}
 use Rattle.books.proofs.marks.join.Given as goal
 
 abbrev pub invariant-loop-i : goal.invariant-loop-i

@@ -1,11 +1,8 @@
 -- `books::marks::mark_all` meets its contract. Assumes nothing.
 use native.Mathlib.Omega.{arith}
-use mathlib.Core.Path.{◌≡◌, sym, ◌∙◌, subst}
-use Prim.Native.Nat.{◌-◌, ◌≤◌}
-use lib.ListN.{length}
+use mathlib.Core.Path.{sym, ◌∙◌, subst}
 use Rattle.books.specs.Steps.{Shape, Marking}
 use Rattle.books.proofs.Marking.{marking_start, marking_turn}
-use borrow.Author.Rules.{rules}
 use Rattle.books.proofs.marks.mark_all.Goals as goal
 
 pub loop-x-init : goal.loop-x-init

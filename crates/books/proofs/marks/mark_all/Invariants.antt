@@ -1,11 +1,8 @@
 -- `books::marks::mark_all`: what its loops keep true, and why they end. Assumes nothing.
-use native.Mathlib.Omega.{arith}
-use mathlib.Core.Path.{◌≡◌, sym, ◌∙◌, subst}
+use mathlib.Core.Path.{◌≡◌}
 use Prim.Native.Nat.{◌-◌, ◌≤◌}
 use lib.ListN.{length}
-use Rattle.books.specs.Steps.{Shape, Marking}
-use Rattle.books.proofs.Marking.{marking_start, marking_turn}
-use borrow.Author.Rules.{rules}
+use Rattle.books.specs.Steps.{Marking}
 use Rattle.books.proofs.marks.mark_all.Given as goal
 
 abbrev pub invariant-loop-x : goal.invariant-loop-x

@@ -1,11 +1,8 @@
 -- `books::marks::spread` meets its contract. Assumes nothing.
 use native.Mathlib.Omega.{arith}
-use mathlib.Core.Path.{◌≡◌, refl, sym, ◌∙◌}
-use Prim.Native.Nat.{◌-◌, ◌^◌, ◌≤◌}
-use lib.ListN.{length}
+use mathlib.Core.Path.{refl, sym, ◌∙◌}
 use Rattle.laws.proofs.Powers.{half_most, twice_half}
-use Rattle.books.proofs.Spreading.{Spreading, spreading_start, spreading_turn, spreading_end}
-use borrow.Author.Rules.{rules}
+use Rattle.books.proofs.Spreading.{spreading_start, spreading_turn, spreading_end}
 use Rattle.books.proofs.marks.spread.Goals as goal
 
 pub loop-d-init : goal.loop-d-init

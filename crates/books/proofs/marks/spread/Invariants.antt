@@ -1,11 +1,8 @@
 -- `books::marks::spread`: what its loops keep true, and why they end. Assumes nothing.
-use native.Mathlib.Omega.{arith}
-use mathlib.Core.Path.{◌≡◌, refl, sym, ◌∙◌}
+use mathlib.Core.Path.{◌≡◌}
 use Prim.Native.Nat.{◌-◌, ◌^◌, ◌≤◌}
 use lib.ListN.{length}
-use Rattle.laws.proofs.Powers.{half_most, twice_half}
-use Rattle.books.proofs.Spreading.{Spreading, spreading_start, spreading_turn, spreading_end}
-use borrow.Author.Rules.{rules}
+use Rattle.books.proofs.Spreading.{Spreading}
 use Rattle.books.proofs.marks.spread.Given as goal
 
 abbrev pub invariant-loop-d : goal.invariant-loop-d

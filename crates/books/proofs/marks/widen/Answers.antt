@@ -1,6 +1,5 @@
 -- `books::marks::widen` meets its contract. Assumes nothing.
 use Rattle.books.proofs.Spreading.{widened_of}
-use borrow.Author.Rules.{rules}
 use Rattle.books.proofs.marks.widen.Goals as goal
 
 pub returns : goal.returns

@@ -5,7 +5,6 @@ use mathlib.Core.Path.{ap, ◌∙◌}
 use Prim.Native.Nat.{ℕ, ◌/◌, ◌%◌, ◌≤◌, ◌<◌}
 use lib.Dec.{ltb}
 use Rattle.laws.proofs.Shifts.{one_shl}
-use borrow.Author.Rules.{rules}
 use Rattle.books.proofs.shapes.is_shaped.Goals as goal
 
 pub returns-then-length-lt1 : goal.returns-then-length-lt1

@@ -1,9 +1,7 @@
 -- `books::shapes::shapes_of` meets its contract. Assumes nothing.
-use borrow.Author.Rules.{rules}
 use native.Mathlib.Omega.{arith}
 use mathlib.Core.Path.{sym, ap, ◌∙◌, subst}
-use Prim.Native.Nat.{ℕ, ◌+◌, ◌-◌, ◌/◌, ◌^◌}
-use lib.ListN.{length}
+use Prim.Native.Nat.{ℕ, ◌+◌, ◌/◌, ◌^◌}
 use lib.Pow.{shr_le}
 use borrow.Author.Tests.{not-true, not-false}
 use Rattle.books.specs.Book.{shaped}

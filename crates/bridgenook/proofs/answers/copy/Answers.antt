@@ -1,10 +1,7 @@
 -- `bridgenook::answers::copy` meets its contract. Assumes nothing.
-use borrow.Author.Rules.{rules}
 use native.Mathlib.Omega.{arith}
 use mathlib.Core.Path.{refl}
-use Prim.Native.Nat.{◌-◌}
-use lib.ListN.{length}
-use Rattle.bridgenook.proofs.Copying.{Copied, copied_turn, copied_end}
+use Rattle.bridgenook.proofs.Copying.{copied_turn, copied_end}
 use Rattle.bridgenook.proofs.answers.copy.Goals as goal
 
 pub loop-i-init : goal.loop-i-init

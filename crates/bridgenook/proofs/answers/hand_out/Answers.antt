@@ -1,5 +1,4 @@
 -- `bridgenook::answers::hand_out` meets its contract. Assumes nothing.
-use borrow.Author.Rules.{rules}
 use Rattle.bridgenook.proofs.Handing.{handing_refused, handing_accepted}
 use Rattle.bridgenook.proofs.answers.hand_out.Goals as goal
 

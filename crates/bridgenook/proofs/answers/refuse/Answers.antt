@@ -1,5 +1,4 @@
 -- `bridgenook::answers::refuse` meets its contract. Assumes nothing.
-use borrow.Author.Rules.{rules}
 use Rattle.bridgenook.proofs.Saying.{says_refusal}
 use Rattle.bridgenook.proofs.answers.refuse.Goals as goal
 

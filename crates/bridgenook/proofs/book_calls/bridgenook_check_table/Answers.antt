@@ -1,5 +1,4 @@
 -- `bridgenook::book_calls::bridgenook_check_table` meets its contract. Assumes nothing.
-use borrow.Author.Rules.{rules}
 use Rattle.bridgenook.proofs.Saying.{says_as}
 use Rattle.bridgenook.proofs.book_calls.bridgenook_check_table.Goals as goal
 

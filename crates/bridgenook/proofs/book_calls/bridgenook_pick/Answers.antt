@@ -1,5 +1,4 @@
 -- `bridgenook::book_calls::bridgenook_pick` meets its contract. Assumes nothing.
-use borrow.Author.Rules.{rules}
 use Rattle.books.specs.Told.{told_pick}
 use Rattle.bridgenook.proofs.Saying.{says_told}
 use Rattle.bridgenook.proofs.book_calls.bridgenook_pick.Goals as goal

@@ -1,5 +1,4 @@
 -- `bridgenook::book_calls::say_check` meets its contract. Assumes nothing.
-use borrow.Author.Rules.{rules}
 use mathlib.Core.Path.{refl}
 use Rattle.books.specs.Told.{told_check}
 use Rattle.bridgenook.proofs.Saying.{says_told}

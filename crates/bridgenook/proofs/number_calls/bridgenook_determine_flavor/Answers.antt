@@ -1,5 +1,4 @@
 -- `bridgenook::number_calls::bridgenook_determine_flavor` meets its contract. Assumes nothing.
-use borrow.Author.Rules.{rules}
 use Rattle.numbers.specs.Told.{told_flavor}
 use Rattle.bridgenook.proofs.Saying.{says_told, says_value}
 use Rattle.bridgenook.proofs.number_calls.bridgenook_determine_flavor.Goals as goal

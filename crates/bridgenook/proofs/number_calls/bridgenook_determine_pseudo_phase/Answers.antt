@@ -1,5 +1,4 @@
 -- `bridgenook::number_calls::bridgenook_determine_pseudo_phase` meets its contract. Assumes nothing.
-use borrow.Author.Rules.{rules}
 use Rattle.bridgenook.proofs.Saying.{says_as}
 use Rattle.bridgenook.proofs.number_calls.bridgenook_determine_pseudo_phase.Goals as goal
 

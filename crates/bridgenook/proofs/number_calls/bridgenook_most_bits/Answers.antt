@@ -1,5 +1,4 @@
 -- `bridgenook::number_calls::bridgenook_most_bits` meets its contract. Assumes nothing.
-use borrow.Author.Rules.{rules}
 use Rattle.numbers.specs.Told.{told_most}
 use Rattle.bridgenook.proofs.Saying.{says_told}
 use Rattle.bridgenook.proofs.number_calls.bridgenook_most_bits.Goals as goal

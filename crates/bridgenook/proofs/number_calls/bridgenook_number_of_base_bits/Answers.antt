@@ -1,5 +1,4 @@
 -- `bridgenook::number_calls::bridgenook_number_of_base_bits` meets its contract. Assumes nothing.
-use borrow.Author.Rules.{rules}
 use Rattle.bridgenook.proofs.Saying.{says_as}
 use Rattle.bridgenook.proofs.number_calls.bridgenook_number_of_base_bits.Goals as goal
 

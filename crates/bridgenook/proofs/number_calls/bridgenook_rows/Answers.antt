@@ -1,5 +1,4 @@
 -- `bridgenook::number_calls::bridgenook_rows` meets its contract. Assumes nothing.
-use borrow.Author.Rules.{rules}
 use Rattle.numbers.specs.Told.{told_rows}
 use Rattle.bridgenook.proofs.Saying.{says_told}
 use Rattle.bridgenook.proofs.number_calls.bridgenook_rows.Goals as goal

@@ -1,5 +1,4 @@
 -- `bridgenook::number_calls::say_number` meets its contract. Assumes nothing.
-use borrow.Author.Rules.{rules}
 use mathlib.Core.Path.{refl}
 use Rattle.numbers.specs.Told.{told_number}
 use Rattle.bridgenook.proofs.Saying.{says_told}

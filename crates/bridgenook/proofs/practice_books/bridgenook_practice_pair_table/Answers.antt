@@ -1,5 +1,4 @@
 -- `bridgenook::practice_books::bridgenook_practice_pair_table` meets its contract. Assumes nothing.
-use borrow.Author.Rules.{rules}
 use Rattle.bridgenook.proofs.Handing.{handing_as}
 use Rattle.bridgenook.proofs.practice_books.bridgenook_practice_pair_table.Goals as goal
 

@@ -1,5 +1,4 @@
 -- `bridgenook::practice_books::bridgenook_practice_window_book` meets its contract. Assumes nothing.
-use borrow.Author.Rules.{rules}
 use Rattle.bridgenook.proofs.Handing.{handing_as}
 use Rattle.bridgenook.proofs.practice_books.bridgenook_practice_window_book.Goals as goal
 

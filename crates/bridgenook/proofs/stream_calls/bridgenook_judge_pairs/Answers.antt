@@ -1,5 +1,4 @@
 -- `bridgenook::stream_calls::bridgenook_judge_pairs` meets its contract. Assumes nothing.
-use borrow.Author.Rules.{rules}
 use Rattle.pair_lists.specs.Told.{told_pairs}
 use Rattle.bridgenook.proofs.Saying.{says_told}
 use Rattle.bridgenook.proofs.stream_calls.bridgenook_judge_pairs.Goals as goal

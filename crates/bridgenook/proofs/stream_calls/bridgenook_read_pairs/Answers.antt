@@ -1,5 +1,4 @@
 -- `bridgenook::stream_calls::bridgenook_read_pairs` meets its contract. Assumes nothing.
-use borrow.Author.Rules.{rules}
 use Rattle.bridgenook.proofs.Saying.{says_as}
 use Rattle.bridgenook.proofs.stream_calls.bridgenook_read_pairs.Goals as goal
 

@@ -1,5 +1,4 @@
 -- `bridgenook::stream_calls::say_read` meets its contract. Assumes nothing.
-use borrow.Author.Rules.{rules}
 use mathlib.Core.Path.{refl}
 use Rattle.compression.specs.Told.{told_read}
 use Rattle.bridgenook.proofs.Saying.{says_told}

@@ -1,5 +1,4 @@
 -- `bridgenook::table_calls::bridgenook_table_clear` meets its contract. Assumes nothing.
-use borrow.Author.Rules.{rules}
 use Rattle.bridgenook.proofs.Saying.{says_as}
 use Rattle.bridgenook.proofs.table_calls.bridgenook_table_clear.Goals as goal
 

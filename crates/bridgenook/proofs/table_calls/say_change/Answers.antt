@@ -1,5 +1,4 @@
 -- `bridgenook::table_calls::say_change` meets its contract. Assumes nothing.
-use borrow.Author.Rules.{rules}
 use mathlib.Core.Path.{refl}
 use Rattle.pair_table.specs.Told.{told_change}
 use Rattle.bridgenook.proofs.Saying.{says_told}

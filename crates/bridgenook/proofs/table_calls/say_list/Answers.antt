@@ -1,5 +1,4 @@
 -- `bridgenook::table_calls::say_list` meets its contract. Assumes nothing.
-use borrow.Author.Rules.{rules}
 use mathlib.Core.Path.{refl}
 use Rattle.table_listings.specs.Told.{told_list}
 use Rattle.bridgenook.proofs.Saying.{says_told}

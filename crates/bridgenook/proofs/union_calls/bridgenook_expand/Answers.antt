@@ -1,5 +1,4 @@
 -- `bridgenook::union_calls::bridgenook_expand` meets its contract. Assumes nothing.
-use borrow.Author.Rules.{rules}
 use Rattle.unions.specs.Told.{told_expand}
 use Rattle.bridgenook.proofs.Saying.{says_told}
 use Rattle.bridgenook.proofs.union_calls.bridgenook_expand.Goals as goal

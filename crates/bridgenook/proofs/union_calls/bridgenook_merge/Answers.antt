@@ -1,5 +1,4 @@
 -- `bridgenook::union_calls::bridgenook_merge` meets its contract. Assumes nothing.
-use borrow.Author.Rules.{rules}
 use Rattle.bridgenook.proofs.Saying.{says_as}
 use Rattle.bridgenook.proofs.union_calls.bridgenook_merge.Goals as goal
 

@@ -1,5 +1,4 @@
 -- `bridgenook::union_calls::bridgenook_new_union` meets its contract. Assumes nothing.
-use borrow.Author.Rules.{rules}
 use Rattle.bridgenook.proofs.Saying.{says_as}
 use Rattle.bridgenook.proofs.union_calls.bridgenook_new_union.Goals as goal
 

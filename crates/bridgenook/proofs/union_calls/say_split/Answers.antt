@@ -1,5 +1,4 @@
 -- `bridgenook::union_calls::say_split` meets its contract. Assumes nothing.
-use borrow.Author.Rules.{rules}
 use mathlib.Core.Path.{refl}
 use Rattle.unions.specs.Told.{told_split}
 use Rattle.bridgenook.proofs.Saying.{says_told, says_second}

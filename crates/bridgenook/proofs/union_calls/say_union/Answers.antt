@@ -1,5 +1,4 @@
 -- `bridgenook::union_calls::say_union` meets its contract. Assumes nothing.
-use borrow.Author.Rules.{rules}
 use mathlib.Core.Path.{refl}
 use Rattle.unions.specs.Told.{told_union}
 use Rattle.bridgenook.proofs.Saying.{says_told}

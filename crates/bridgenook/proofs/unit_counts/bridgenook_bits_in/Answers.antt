@@ -1,5 +1,4 @@
 -- `bridgenook::unit_counts::bridgenook_bits_in` meets its contract. Assumes nothing.
-use borrow.Author.Rules.{rules}
 use Rattle.bridgenook.proofs.Saying.{says_value}
 use Rattle.bridgenook.proofs.unit_counts.bridgenook_bits_in.Goals as goal
 

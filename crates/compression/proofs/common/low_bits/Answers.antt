@@ -4,7 +4,6 @@ use native.Mathlib.Nat.{mod-lt}
 use mathlib.Core.Path.{refl}
 use lib.Pow.{pow_pos}
 use Rattle.laws.proofs.Shifts.{one_shl}
-use borrow.Author.Rules.{rules}
 use Rattle.compression.proofs.common.low_bits.Goals as goal
 
 pub nonzero_rem-result : goal.nonzero_rem-result

@@ -7,7 +7,6 @@ use Rattle.numbers.specs.Numbers.{base_bits_at}
 use Rattle.numbers.specs.Told.{told_number}
 use Rattle.numbers.proofs.Logs.{base_bits_most}
 use Rattle.compression.proofs.WrittenCalls.{base_bits_is}
-use borrow.Author.Rules.{rules}
 use Rattle.compression.proofs.counting.base_bits.Goals as goal
 
 pub returns-in-Given : goal.returns-in-Given

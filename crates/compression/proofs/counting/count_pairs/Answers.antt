@@ -1,9 +1,6 @@
 -- `compression::counting::count_pairs` meets its contract. Assumes nothing.
-use borrow.Author.Rules.{rules}
 use native.Mathlib.Omega.{arith}
-use Prim.Native.Nat.{◌-◌}
-use lib.ListN.{length}
-use Rattle.compression.proofs.CountingBits.{CountingPairs, pairs_start, pairs_turn, pairs_end, pair_follows, pair_below}
+use Rattle.compression.proofs.CountingBits.{pairs_start, pairs_turn, pairs_end, pair_follows, pair_below}
 use Rattle.compression.proofs.counting.count_pairs.Goals as goal
 
 pub loop-i-init : goal.loop-i-init

@@ -1,9 +1,7 @@
 -- `compression::counting::count_pairs`: what its loops keep true, and why they end. Assumes nothing.
-use borrow.Author.Rules.{rules}
-use native.Mathlib.Omega.{arith}
 use Prim.Native.Nat.{◌-◌}
 use lib.ListN.{length}
-use Rattle.compression.proofs.CountingBits.{CountingPairs, pairs_start, pairs_turn, pairs_end, pair_follows, pair_below}
+use Rattle.compression.proofs.CountingBits.{CountingPairs}
 use Rattle.compression.proofs.counting.count_pairs.Given as goal
 
 abbrev pub invariant-loop-i : goal.invariant-loop-i

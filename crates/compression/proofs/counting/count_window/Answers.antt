@@ -1,9 +1,7 @@
 -- `compression::counting::count_window` meets its contract. Assumes nothing.
-use borrow.Author.Rules.{rules}
 use native.Mathlib.Omega.{arith}
 use mathlib.Core.Path.{sym, subst}
-use Prim.Native.Nat.{ℕ, ◌+◌, ◌-◌, ◌/◌}
-use lib.ListN.{length}
+use Prim.Native.Nat.{ℕ, ◌+◌, ◌/◌}
 use Rattle.compression.proofs.CountingBits.{CountingWindow, window_start, window_turn, window_end, byte_below}
 use Rattle.compression.proofs.counting.count_window.Goals as goal
 

@@ -3,7 +3,6 @@ use mathlib.Core.Path.{sym, ap, ◌∙◌}
 use Rattle.refusals.proofs.Only.{never_accepted}
 use Rattle.numbers.specs.Told.{told_most}
 use Rattle.compression.proofs.WrittenCalls.{most_bits_is}
-use borrow.Author.Rules.{rules}
 use Rattle.compression.proofs.counting.granted_bits.Goals as goal
 
 pub returns-in-AtMost : goal.returns-in-AtMost

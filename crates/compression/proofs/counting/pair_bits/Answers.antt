@@ -4,7 +4,6 @@ use mathlib.Core.Path.{ap}
 use Prim.Native.Nat.{ℕ, ◌-◌, ◌/◌, ◌%◌}
 use lib.Pow.{shr_le}
 use Rattle.compression.proofs.CountingBits.{pair_total}
-use borrow.Author.Rules.{rules}
 use Rattle.compression.proofs.counting.pair_bits.Goals as goal
 
 pub overflow_add-result : goal.overflow_add-result

@@ -8,7 +8,6 @@ use lib.ListN.{length}
 use Rattle.refusals.specs.Units.{words_for}
 use Rattle.compression.proofs.CountingBits.{window_most}
 use Rattle.compression.proofs.WrittenCalls.{enough}
-use borrow.Author.Rules.{rules}
 use Rattle.compression.proofs.counting.window_fits.Goals as goal
 
 pub returns-then-fits : goal.returns-then-fits

@@ -1,12 +1,9 @@
 -- `compression::pair_reader::read_into` meets its contract. Assumes nothing.
 use mathlib.Core.Path.{refl, subst}
-use Prim.Native.Nat.{◌-◌}
 use native.Mathlib.Omega.{arith}
-use borrow.Author.Rules.{rules}
-use Rattle.streams.specs.Read.{Step}
 use Rattle.compression.specs.Reading.{Stands, SteppedBy, CursorAfter, pair_is}
 use Rattle.compression.proofs.ReaderBuffer.{begin_stands}
-use Rattle.compression.proofs.ReadingPairs.{PairsHead, pairs_start, pairs_turn, pairs_fault, pairs_end}
+use Rattle.compression.proofs.ReadingPairs.{pairs_start, pairs_turn, pairs_fault, pairs_end}
 use Rattle.compression.proofs.pair_reader.read_into.Goals as goal
 
 pub loop-i-init : goal.loop-i-init

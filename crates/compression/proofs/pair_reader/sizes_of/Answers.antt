@@ -1,7 +1,6 @@
 -- `compression::pair_reader::sizes_of` meets its contract. Assumes nothing.
 use mathlib.Core.Path.{sym, ap, ◌∙◌, subst}
 use Prim.Native.Nat.{◌^◌, ◌≤◌}
-use borrow.Author.Rules.{rules}
 use Rattle.numbers.specs.Told.{told_rows, told_number}
 use Rattle.numbers.proofs.Logs.{base_bits_most}
 use Rattle.numbers.proofs.RowsTold.{rows_refused, matched_rows}

@@ -6,7 +6,6 @@ use lib.ListN.{length}
 use Rattle.streams.specs.Written.{codes_from}
 use Rattle.compression.specs.Writing.{ClosedBy, pad_of}
 use Rattle.compression.proofs.WrittenWords.{fresh_lawful, written}
-use borrow.Author.Rules.{rules}
 use Rattle.compression.proofs.pair_writer.put_list.Goals as goal
 
 pub put_pairs-listed-requires : goal.put_pairs-listed-requires

@@ -8,7 +8,6 @@ use Rattle.streams.specs.Stream.{word_bits}
 use Rattle.streams.specs.Codes.{total}
 use Rattle.streams.specs.Written.{predicted}
 use Rattle.compression.specs.Writing.{bits_put, PutsBy, entry_codes}
-use borrow.Author.Rules.{rules}
 use Rattle.compression.proofs.pair_writer.put_pair.Goals as goal
 
 pub put_step-requires : goal.put_step-requires

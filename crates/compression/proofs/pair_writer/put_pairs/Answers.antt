@@ -1,12 +1,11 @@
 -- `compression::pair_writer::put_pairs` meets its contract. Assumes nothing.
-use borrow.Author.Rules.{rules}
 use native.Mathlib.Omega.{arith}
 use mathlib.Core.Path.{subst}
-use Prim.Native.Nat.{ℕ, ◌-◌, ◌<◌}
+use Prim.Native.Nat.{ℕ, ◌<◌}
 use lib.ListN.{length}
 use Rattle.streams.specs.Written.{pair_codes}
 use Rattle.compression.specs.Writing.{PutsBy}
-use Rattle.compression.proofs.PuttingPairs.{Head, start, end, first, room, more}
+use Rattle.compression.proofs.PuttingPairs.{start, end, first, room, more}
 use Rattle.compression.proofs.pair_writer.put_pairs.Goals as goal
 
 pub loop-i-init : goal.loop-i-init

@@ -1,12 +1,7 @@
 -- `compression::pair_writer::put_pairs`: what its loops keep true, and why they end. Assumes nothing.
-use borrow.Author.Rules.{rules}
-use native.Mathlib.Omega.{arith}
-use mathlib.Core.Path.{subst}
-use Prim.Native.Nat.{ℕ, ◌-◌, ◌<◌}
+use Prim.Native.Nat.{◌-◌}
 use lib.ListN.{length}
-use Rattle.streams.specs.Written.{pair_codes}
-use Rattle.compression.specs.Writing.{PutsBy}
-use Rattle.compression.proofs.PuttingPairs.{Head, start, end, first, room, more}
+use Rattle.compression.proofs.PuttingPairs.{Head}
 use Rattle.compression.proofs.pair_writer.put_pairs.Given as goal
 
 abbrev pub invariant-loop-i : goal.invariant-loop-i

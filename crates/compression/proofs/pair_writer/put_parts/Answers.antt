@@ -4,7 +4,6 @@ use mathlib.Core.List.{[], ◌∷◌}
 use Rattle.streams.specs.Codes.{Code, zeros_one}
 use Rattle.compression.specs.Writing.{entry_code}
 use Rattle.compression.proofs.PuttingCodes.{puts_one, puts_then, parts_total}
-use borrow.Author.Rules.{rules}
 use Rattle.compression.proofs.pair_writer.put_parts.Goals as goal
 
 pub put-coded-requires : goal.put-coded-requires

@@ -6,7 +6,6 @@ use lib.Pow.{shr_le}
 use Rattle.streams.specs.Codes.{pack}
 use Rattle.compression.specs.Writing.{PutBy, PutsBy, part_codes}
 use Rattle.compression.proofs.PuttingCodes.{parts_total}
-use borrow.Author.Rules.{rules}
 use Rattle.compression.proofs.pair_writer.put_step.Goals as goal
 
 pub overflow_add-zeros : goal.overflow_add-zeros

@@ -1,7 +1,6 @@
 -- `compression::reader::fill` meets its contract. Assumes nothing.
 use Prim.Native.Nat.{◌/◌, ◌≤◌}
 use native.Mathlib.Omega.{arith}
-use borrow.Author.Rules.{rules}
 use lib.ListN.{length}
 use Rattle.compression.proofs.ReaderBuffer.{fill_stands}
 use Rattle.compression.proofs.reader.fill.Goals as goal

@@ -1,7 +1,6 @@
 -- `compression::reader::look` meets its contract. Assumes nothing.
 use mathlib.Core.Path.{subst}
 use native.Mathlib.Omega.{arith}
-use borrow.Author.Rules.{rules}
 use lib.Pow.{pow_pos}
 use Rattle.laws.proofs.Shifts.{one_shl}
 use Rattle.compression.specs.Reading.{FilledBy, place_of}

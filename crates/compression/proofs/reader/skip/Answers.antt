@@ -1,6 +1,5 @@
 -- `compression::reader::skip` meets its contract. Assumes nothing.
 use native.Mathlib.Omega.{arith}
-use borrow.Author.Rules.{rules}
 use Rattle.compression.proofs.ReaderBuffer.{skip_stands}
 use Rattle.compression.proofs.reader.skip.Goals as goal
 

@@ -1,14 +1,8 @@
 -- `compression::reader::take_zeros`: what its loops keep true, and why they end. Assumes nothing.
-use mathlib.Core.List.{List}
-use mathlib.Core.Path.{refl, ap, ◌∙◌, subst}
-use Prim.Native.Nat.{ℕ, ◌+◌, ◌-◌, ◌^◌, ◌≤◌}
-use native.Mathlib.Omega.{arith}
-use borrow.Author.Rules.{rules}
-use Rattle.streams.specs.Stream.{number, word_bits}
-use Rattle.compression.specs.Reading.{place_of, SeenBy}
-use Rattle.compression.specs.declared.reader.Seen.TheVariants.{Bits}
-use Rattle.streams.proofs.Stream.{bits_at_lt}
-use Rattle.compression.proofs.ZerosLooks.{ZerosHead, zeros_start, zeros_cut, zeros_found, zeros_turn}
+use Prim.Native.Nat.{◌-◌}
+use Rattle.streams.specs.Stream.{word_bits}
+use Rattle.compression.specs.Reading.{place_of}
+use Rattle.compression.proofs.ZerosLooks.{ZerosHead}
 use Rattle.compression.proofs.reader.take_zeros.Given as goal
 
 abbrev pub invariant-loop-bits : goal.invariant-loop-bits

@@ -1,6 +1,5 @@
 -- `compression::reader::top_up` meets its contract. Assumes nothing.
 use mathlib.Core.Path.{subst}
-use borrow.Author.Rules.{rules}
 use Rattle.compression.specs.Reading.{FilledBy}
 use Rattle.compression.proofs.reader.top_up.Goals as goal
 

@@ -1,6 +1,5 @@
 -- `compression::reader::word_at` meets its contract. Assumes nothing.
 use native.Mathlib.Omega.{arith}
-use borrow.Author.Rules.{rules}
 use Rattle.compression.proofs.ReaderStream.{four_bytes}
 use Rattle.compression.proofs.reader.word_at.Goals as goal
 

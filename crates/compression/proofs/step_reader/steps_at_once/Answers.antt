@@ -7,7 +7,6 @@ use Rattle.streams.proofs.Zeros.{zeros_mod}
 use Rattle.compression.specs.Reading.{place_of}
 use Rattle.compression.proofs.LookingFields.{row_exact, row_fits}
 use Rattle.compression.proofs.StepsAtOnce.{both_steps}
-use borrow.Author.Rules.{rules}
 use Rattle.compression.proofs.step_reader.steps_at_once.Goals as goal
 
 pub overflow_add-down : goal.overflow_add-down

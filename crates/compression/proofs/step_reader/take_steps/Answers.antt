@@ -2,7 +2,6 @@
 use mathlib.Core.Path.{subst}
 use Prim.Native.Nat.{ℕ}
 use Rattle.compression.specs.Reading.{StepsBy}
-use borrow.Author.Rules.{rules}
 use Rattle.compression.proofs.step_reader.take_steps.Goals as goal
 
 pub returns-then-full-b : goal.returns-then-full-b

@@ -2,7 +2,6 @@
 use native.Mathlib.Omega.{arith}
 use Rattle.streams.specs.Written.{window_codes}
 use Rattle.compression.proofs.WrittenWords.{fresh_lawful, written}
-use borrow.Author.Rules.{rules}
 use Rattle.compression.proofs.window_writer.put_codes.Goals as goal
 
 pub put_window-listed-requires : goal.put_window-listed-requires

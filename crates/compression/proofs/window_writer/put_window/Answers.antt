@@ -1,11 +1,8 @@
 -- `compression::window_writer::put_window` meets its contract. Assumes nothing.
-use borrow.Author.Rules.{rules}
 use native.Mathlib.Omega.{arith}
 use mathlib.Core.Path.{sym, subst}
-use Prim.Native.Nat.{◌-◌}
-use lib.ListN.{length}
 use Rattle.books.specs.Steps.{Shape}
-use Rattle.compression.proofs.PuttingWindow.{WindowHead, begins, ends, second_inside, two_room, two_more}
+use Rattle.compression.proofs.PuttingWindow.{begins, ends, second_inside, two_room, two_more}
 use Rattle.compression.proofs.window_writer.put_window.Goals as goal
 
 pub loop-i-init : goal.loop-i-init

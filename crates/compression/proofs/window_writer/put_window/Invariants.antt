@@ -1,11 +1,7 @@
 -- `compression::window_writer::put_window`: what its loops keep true, and why they end. Assumes nothing.
-use borrow.Author.Rules.{rules}
-use native.Mathlib.Omega.{arith}
-use mathlib.Core.Path.{sym, subst}
 use Prim.Native.Nat.{◌-◌}
 use lib.ListN.{length}
-use Rattle.books.specs.Steps.{Shape}
-use Rattle.compression.proofs.PuttingWindow.{WindowHead, begins, ends, second_inside, two_room, two_more}
+use Rattle.compression.proofs.PuttingWindow.{WindowHead}
 use Rattle.compression.proofs.window_writer.put_window.Given as goal
 
 abbrev pub invariant-loop-i : goal.invariant-loop-i

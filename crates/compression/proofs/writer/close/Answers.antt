@@ -1,7 +1,6 @@
 -- `compression::writer::close` meets its contract. Assumes nothing.
 use lib.Pow.{pow_pos}
 use Rattle.compression.proofs.WrittenWords.{closed}
-use borrow.Author.Rules.{rules}
 use Rattle.compression.proofs.writer.close.Goals as goal
 
 pub put-padded-requires : goal.put-padded-requires

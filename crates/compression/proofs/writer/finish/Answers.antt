@@ -1,5 +1,4 @@
 -- `compression::writer::finish` meets its contract. Assumes nothing.
-use borrow.Author.Rules.{rules}
 use native.Mathlib.Omega.{arith}
 use Rattle.compression.proofs.PuttingValues.{finish_empty, finish_last}
 use Rattle.compression.proofs.writer.finish.Goals as goal

@@ -1,5 +1,4 @@
 -- `compression::writer::put` meets its contract. Assumes nothing.
-use borrow.Author.Rules.{rules}
 use native.Mathlib.Omega.{arith}
 use Rattle.compression.proofs.PuttingValues.{put_kept, put_flushed}
 use Rattle.compression.proofs.writer.put.Goals as goal

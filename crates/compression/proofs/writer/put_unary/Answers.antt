@@ -1,7 +1,7 @@
 -- `compression::writer::put_unary` meets its contract. Assumes nothing.
 use native.Mathlib.Omega.{arith}
 use mathlib.Core.Path.{◌∙◌, subst}
-use Prim.Native.Nat.{ℕ, ◌+◌, ◌-◌, ◌≤◌}
+use Prim.Native.Nat.{ℕ, ◌+◌}
 use lib.Pow.{pow-lt}
 use Rattle.laws.proofs.Shifts.{one_shl}
 use Rattle.compression.specs.Writing.{PutBy}

@@ -1,5 +1,4 @@
 -- `numbers::formulas::flavor_at` meets its contract. Assumes nothing.
-use borrow.Author.Rules.{rules}
 use borrow.Author.Tests.{lt-ltb, le-ltb, eq-eqb, ne_eqb}
 use Rattle.numbers.specs.Numbers.{flavor_at}
 use Rattle.numbers.proofs.formulas.flavor_at.Goals as goal

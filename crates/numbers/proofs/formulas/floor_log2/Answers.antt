@@ -1,10 +1,10 @@
 -- `numbers::formulas::floor_log2` meets its contract. Assumes nothing.
 use mathlib.Core.Path.{◌≡◌}
-use Prim.Native.Nat.{suc, ◌-◌}
+use Prim.Native.Nat.{suc}
 use native.Mathlib.Omega.{arith}
 use lib.Pow.{pow_pos}
 use Rattle.numbers.specs.Numbers.{floor_log2}
-use Rattle.numbers.proofs.Logs.{Doubled, doubled_start, doubled_turn, doubled_most, doubled_met, doubled_past, log_most}
+use Rattle.numbers.proofs.Logs.{doubled_start, doubled_turn, doubled_most, doubled_met, doubled_past, log_most}
 use Rattle.numbers.proofs.formulas.floor_log2.Goals as goal
 
 pub loop-power-init : goal.loop-power-init
@@ -23,7 +23,7 @@ pub loop-power-preserved : goal.loop-power-preserved
 loop-power-preserved c = doubled_turn c.loop-power.invariant c.loop-power-test.true
 
 pub returns-then-power-quotient : goal.returns-then-power-quotient
-returns-then-power-quotient c =    let e = doubled_met c.loop-power.invariant c.requires.1 c.if-power-quotient.true in
+returns-then-power-quotient c = let e = doubled_met c.loop-power.invariant c.requires.1 c.if-power-quotient.true in
     (e, omega (arith, log_most c.args.quotient))
 
 pub overflow_sub-result : goal.overflow_sub-result

@@ -1,5 +1,4 @@
 -- `numbers::formulas::middle_phase_at` meets its contract. Assumes nothing.
-use borrow.Author.Rules.{rules}
 use borrow.Author.Tests.{lt-ltb, le-ltb}
 use Rattle.numbers.specs.Numbers.{middle_phase_at}
 use Rattle.numbers.proofs.formulas.middle_phase_at.Goals as goal

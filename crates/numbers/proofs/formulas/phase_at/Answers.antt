@@ -1,6 +1,5 @@
 -- `numbers::formulas::phase_at` meets its contract. Assumes nothing.
 use mathlib.Core.Path.{◌∙◌}
-use borrow.Author.Rules.{rules}
 use borrow.Author.Tests.{lt-ltb, le-ltb}
 use Rattle.numbers.specs.Numbers.{phase_at}
 use Rattle.numbers.proofs.formulas.phase_at.Goals as goal

@@ -1,5 +1,4 @@
 -- `pair_table::building::build_into` meets its contract. Assumes nothing.
-use borrow.Author.Rules.{rules}
 use Rattle.pair_table.proofs.RisingLists.{rest_needs, rest_built}
 use Rattle.pair_table.proofs.building.build_into.Goals as goal
 

@@ -1,13 +1,11 @@
 -- `pair_table::building::build_rest` meets its contract. Assumes nothing.
 use mathlib.Core.Path.{◌∙◌}
-use mathlib.Core.Logic.{⊎_elim}
-use Prim.Native.Nat.{◌+◌, ◌-◌}
+use Prim.Native.Nat.{◌+◌}
 use native.Mathlib.Omega.{arith}
-use lib.ListN.{length, length-replicate}
-use borrow.Author.Rules.{rules}
+use lib.ListN.{length-replicate}
 use Rattle.tables.specs.Slots.{empty}
 use Rattle.tables.specs.Changes.{blank}
-use Rattle.tables.proofs.Finger.{Before, last, twice, stay, move}
+use Rattle.tables.proofs.Finger.{last, twice, stay, move}
 use Rattle.pair_table.proofs.RisingLists.{goes_on}
 use Rattle.pair_table.proofs.building.build_rest.Goals as goal
 use Rattle.pair_table.proofs.building.build_rest.Goals.{then-top-x, else-top-x}
@@ -65,11 +63,11 @@ loop-i-preserved c =
     let e = k.ensures in
     let new = c.if-slots-q.false in
     elim c.if-top-x.branch [
-      then-top-x w ↦ rw (w.p-is, w.len-is, w.top-is, w.step-p.ensures.0, c.size-n.ensures)
-      (move c.args.list.now (blank c.args.slots.now) c.loop-i.slots c.args.lg c.args.v c.loop-i.p c.loop-i.len c.loop-i.top c.loop-i.i k.result c.loop-i.invariant t c.requires.built_to.1 x.0 x.1 e.0 e.1 new
-      w.dist-len.result w.if-top-x.true (rw w.home_of-h.ensures.0 at w.home_of-h.ensures.1) (rw c.size-n.ensures at w.dist-len.ensures.0) (rw (w.home_of-h.ensures.0, c.size-n.ensures) at w.dist-len.ensures.1))
-    | else-top-x w ↦ rw (w.p-is, w.len-is, w.top-is)
-      (stay c.args.list.now (blank c.args.slots.now) c.loop-i.slots c.args.lg c.args.v c.loop-i.p c.loop-i.len c.loop-i.top c.loop-i.i k.result c.loop-i.invariant t c.requires.built_to.1 x.0 x.1 e.0 e.1 new w.if-top-x.false)
+      | then-top-x w ↦ rw (w.p-is, w.len-is, w.top-is, w.step-p.ensures.0, c.size-n.ensures)
+          (move c.args.list.now (blank c.args.slots.now) c.loop-i.slots c.args.lg c.args.v c.loop-i.p c.loop-i.len c.loop-i.top c.loop-i.i k.result c.loop-i.invariant t c.requires.built_to.1 x.0 x.1 e.0 e.1 new
+          w.dist-len.result w.if-top-x.true (rw w.home_of-h.ensures.0 at w.home_of-h.ensures.1) (rw c.size-n.ensures at w.dist-len.ensures.0) (rw (w.home_of-h.ensures.0, c.size-n.ensures) at w.dist-len.ensures.1))
+      | else-top-x w ↦ rw (w.p-is, w.len-is, w.top-is)
+          (stay c.args.list.now (blank c.args.slots.now) c.loop-i.slots c.args.lg c.args.v c.loop-i.p c.loop-i.len c.loop-i.top c.loop-i.i k.result c.loop-i.invariant t c.requires.built_to.1 x.0 x.1 e.0 e.1 new w.if-top-x.false)
     ]
 
 pub shape_of-slots : goal.shape_of-slots

@@ -1,14 +1,8 @@
 -- `pair_table::building::build_rest`: what its loops keep true, and why they end. Assumes nothing.
-use mathlib.Core.Path.{◌∙◌}
-use mathlib.Core.Logic.{⊎_elim}
-use Prim.Native.Nat.{◌+◌, ◌-◌}
-use native.Mathlib.Omega.{arith}
-use lib.ListN.{length, length-replicate}
-use borrow.Author.Rules.{rules}
-use Rattle.tables.specs.Slots.{empty}
+use Prim.Native.Nat.{◌-◌}
+use lib.ListN.{length}
 use Rattle.tables.specs.Changes.{blank}
-use Rattle.tables.proofs.Finger.{Before, last, twice, stay, move}
-use Rattle.pair_table.proofs.RisingLists.{goes_on}
+use Rattle.tables.proofs.Finger.{Before}
 use Rattle.pair_table.proofs.building.build_rest.Given as goal
 
 abbrev pub invariant-loop-i : goal.invariant-loop-i

@@ -1,9 +1,6 @@
 -- `pair_table::building::build_rising` meets its contract. Assumes nothing.
-use Prim.Native.Nat.{◌-◌}
 use native.Mathlib.Omega.{arith}
-use lib.ListN.{length}
-use borrow.Author.Rules.{rules}
-use Rattle.pair_table.proofs.RisingLists.{Rising, rising_start, item_next, rising_turn}
+use Rattle.pair_table.proofs.RisingLists.{rising_start, item_next, rising_turn}
 use Rattle.pair_table.proofs.building.build_rising.Goals as goal
 
 pub loop-i-init : goal.loop-i-init

@@ -1,9 +1,7 @@
 -- `pair_table::building::build_rising`: what its loops keep true, and why they end. Assumes nothing.
 use Prim.Native.Nat.{◌-◌}
-use native.Mathlib.Omega.{arith}
 use lib.ListN.{length}
-use borrow.Author.Rules.{rules}
-use Rattle.pair_table.proofs.RisingLists.{Rising, rising_start, item_next, rising_turn}
+use Rattle.pair_table.proofs.RisingLists.{Rising}
 use Rattle.pair_table.proofs.building.build_rising.Given as goal
 
 abbrev pub invariant-loop-i : goal.invariant-loop-i

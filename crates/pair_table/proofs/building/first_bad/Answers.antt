@@ -1,11 +1,8 @@
 -- `pair_table::building::first_bad` meets its contract. Assumes nothing.
 use mathlib.Core.Path.{refl, sym, ap, ◌∙◌}
-use Prim.Native.Nat.{◌-◌}
 use native.Mathlib.Omega.{arith}
-use lib.ListN.{length}
-use borrow.Author.Rules.{rules}
 use Rattle.pair_table.specs.Told.{told_verdict}
-use Rattle.pair_table.proofs.StoringLists.{Judging, items_refused, items_next, items_all}
+use Rattle.pair_table.proofs.StoringLists.{items_refused, items_next, items_all}
 use Rattle.pair_table.proofs.building.first_bad.Goals as goal
 
 pub loop-i-init : goal.loop-i-init

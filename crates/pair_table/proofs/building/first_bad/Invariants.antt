@@ -1,11 +1,7 @@
 -- `pair_table::building::first_bad`: what its loops keep true, and why they end. Assumes nothing.
-use mathlib.Core.Path.{refl, sym, ap, ◌∙◌}
 use Prim.Native.Nat.{◌-◌}
-use native.Mathlib.Omega.{arith}
 use lib.ListN.{length}
-use borrow.Author.Rules.{rules}
-use Rattle.pair_table.specs.Told.{told_verdict}
-use Rattle.pair_table.proofs.StoringLists.{Judging, items_refused, items_next, items_all}
+use Rattle.pair_table.proofs.StoringLists.{Judging}
 use Rattle.pair_table.proofs.building.first_bad.Given as goal
 
 abbrev pub invariant-loop-i : goal.invariant-loop-i

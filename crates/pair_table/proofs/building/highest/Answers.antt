@@ -1,8 +1,5 @@
 -- `pair_table::building::highest` meets its contract. Assumes nothing.
-use Prim.Native.Nat.{◌-◌, ◌≤◌}
 use native.Mathlib.Omega.{arith}
-use lib.ListN.{length}
-use Rattle.pair_table.specs.Steps.{NoneAbove}
 use Rattle.pair_table.proofs.RisingLists.{none_more}
 use Rattle.pair_table.proofs.building.highest.Goals as goal
 

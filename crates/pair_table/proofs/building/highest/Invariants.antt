@@ -1,9 +1,7 @@
 -- `pair_table::building::highest`: what its loops keep true, and why they end. Assumes nothing.
 use Prim.Native.Nat.{◌-◌, ◌≤◌}
-use native.Mathlib.Omega.{arith}
 use lib.ListN.{length}
 use Rattle.pair_table.specs.Steps.{NoneAbove}
-use Rattle.pair_table.proofs.RisingLists.{none_more}
 use Rattle.pair_table.proofs.building.highest.Given as goal
 
 abbrev pub invariant-loop-i : goal.invariant-loop-i

@@ -1,7 +1,6 @@
 -- `pair_table::building::judge_items` meets its contract. Assumes nothing.
 use mathlib.Core.Path.{sym, ap, ◌∙◌}
 use native.Mathlib.Omega.{arith}
-use borrow.Author.Rules.{rules}
 use Rattle.pair_table.specs.Told.{told_verdict}
 use Rattle.pair_table.proofs.RisingLists.{highest_fine}
 use Rattle.pair_table.proofs.building.judge_items.Goals as goal

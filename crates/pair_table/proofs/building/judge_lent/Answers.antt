@@ -1,7 +1,6 @@
 -- `pair_table::building::judge_lent` meets its contract. Assumes nothing.
-use Prim.Native.Nat.{◌-◌, ◌^◌}
+use Prim.Native.Nat.{◌^◌}
 use lib.ListN.{length}
-use borrow.Author.Rules.{rules}
 use borrow.Author.Tests.{eq-eqb, ne_eqb, lt-ltb, le-ltb}
 use Rattle.pair_table.specs.Steps.{lent_judged}
 use Rattle.pair_table.proofs.building.judge_lent.Goals as goal

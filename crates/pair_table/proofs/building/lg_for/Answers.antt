@@ -1,8 +1,7 @@
 -- `pair_table::building::lg_for` meets its contract. Assumes nothing.
 use mathlib.Core.Path.{refl, sym, ◌∙◌}
-use Prim.Native.Nat.{◌-◌}
 use native.Mathlib.Omega.{arith}
-use Rattle.pair_table.proofs.StoringLists.{Sizing, size_found, size_next, size_last}
+use Rattle.pair_table.proofs.StoringLists.{size_found, size_next, size_last}
 use Rattle.pair_table.proofs.building.lg_for.Goals as goal
 
 pub loop-lg-init : goal.loop-lg-init

@@ -1,6 +1,5 @@
 -- `pair_table::building::locate` meets its contract. Assumes nothing.
 use native.Mathlib.Omega.{arith}
-use borrow.Author.Rules.{rules}
 use Rattle.tables.specs.Slots.{spot}
 use Rattle.tables.proofs.Finger.{resume}
 use Rattle.pair_table.proofs.building.locate.Goals as goal

@@ -1,7 +1,5 @@
 -- `pair_table::building::store_list` meets its contract. Assumes nothing.
 use mathlib.Core.Path.{refl}
-use Prim.Native.Nat.{◌-◌}
-use borrow.Author.Rules.{rules}
 use Rattle.pair_table.proofs.StoringLists.{store_needs, store_twice, store_whole}
 use Rattle.pair_table.proofs.building.store_list.Goals as goal
 

@@ -1,10 +1,9 @@
 -- `pair_table::changing::fit` meets its contract. Assumes nothing.
 use mathlib.Core.Path.{ap}
-use Prim.Native.Nat.{ℕ, ◌-◌, ◌*◌}
+use Prim.Native.Nat.{ℕ, ◌*◌}
 use native.Mathlib.Omega.{arith}
 use lib.Pow.{pow_mono}
 use lib.Dec.{leb}
-use borrow.Author.Rules.{rules}
 use Rattle.pair_table.proofs.changing.fit.Goals as goal
 
 pub overflow_mul-result-2 : goal.overflow_mul-result-2

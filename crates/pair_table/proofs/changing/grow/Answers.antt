@@ -1,10 +1,9 @@
 -- `pair_table::changing::grow` meets its contract. Assumes nothing.
 use mathlib.Core.Path.{◌≡◌, refl, sym, ap, ◌∙◌}
 use mathlib.Core.List.{[]}
-use Prim.Native.Nat.{◌+◌, ◌-◌}
+use Prim.Native.Nat.{◌+◌}
 use native.Mathlib.Omega.{arith}
 use lib.ListN.{length-set}
-use borrow.Author.Rules.{rules}
 use Rattle.refusals.specs.Outcome.{accepted}
 use Rattle.tables.specs.Calls.{growth_judged}
 use Rattle.tables.proofs.Says.{can_grow}

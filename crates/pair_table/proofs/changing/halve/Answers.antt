@@ -1,7 +1,6 @@
 -- `pair_table::changing::halve` meets its contract. Assumes nothing.
-use Prim.Native.Nat.{◌-◌}
 use native.Mathlib.Omega.{arith}
-use Rattle.pair_table.proofs.Deleting.{Halving, halving_begins, halving_stops, halving_least, halving_needs, halving_goes}
+use Rattle.pair_table.proofs.Deleting.{halving_begins, halving_stops, halving_least, halving_needs, halving_goes}
 use Rattle.pair_table.proofs.Inserting.{wiped}
 use Rattle.pair_table.proofs.changing.halve.Goals as goal
 

@@ -1,8 +1,5 @@
 -- `pair_table::changing::halve`: what its loops keep true, and why they end. Assumes nothing.
-use Prim.Native.Nat.{◌-◌}
-use native.Mathlib.Omega.{arith}
-use Rattle.pair_table.proofs.Deleting.{Halving, halving_begins, halving_stops, halving_least, halving_needs, halving_goes}
-use Rattle.pair_table.proofs.Inserting.{wiped}
+use Rattle.pair_table.proofs.Deleting.{Halving}
 use Rattle.pair_table.proofs.changing.halve.Given as goal
 
 abbrev pub invariant-loop-at : goal.invariant-loop-at

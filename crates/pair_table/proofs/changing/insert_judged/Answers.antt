@@ -1,8 +1,6 @@
 -- `pair_table::changing::insert_judged` meets its contract. Assumes nothing.
 use mathlib.Core.Path.{refl, sym, ◌∙◌}
-use Prim.Native.Nat.{◌-◌}
 use native.Mathlib.Omega.{arith}
-use borrow.Author.Rules.{rules}
 use Rattle.pair_table.proofs.Inserting.{few, insert_there, insert_fits, insert_grows}
 use Rattle.pair_table.proofs.changing.insert_judged.Goals as goal
 

@@ -1,9 +1,9 @@
 -- `pair_table::changing::move_back` meets its contract. Assumes nothing.
-use mathlib.Core.Path.{◌≡◌, refl, sym, ◌∙◌}
+use mathlib.Core.Path.{refl, sym, ◌∙◌}
 use mathlib.Core.Logic.{⊎_elim}
-use Prim.Native.Nat.{ℕ, ◌-◌, ◌≤◌, ◌<◌}
+use Prim.Native.Nat.{◌≤◌, ◌<◌}
 use native.Mathlib.Omega.{arith}
-use lib.ListN.{length, get_or, length-set}
+use lib.ListN.{get_or, length-set}
 use lib.Seq.{get_or-set_other, ext_get_or}
 use Rattle.laws.proofs.Orders.{le_or_lt}
 use Rattle.tables.specs.Slots.{empty}

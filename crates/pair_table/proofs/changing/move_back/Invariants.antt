@@ -1,13 +1,8 @@
 -- `pair_table::changing::move_back`: what its loops keep true, and why they end. Assumes nothing.
-use mathlib.Core.Path.{◌≡◌, refl, sym, ◌∙◌}
-use mathlib.Core.Logic.{⊎_elim}
+use mathlib.Core.Path.{◌≡◌}
 use Prim.Native.Nat.{ℕ, ◌-◌, ◌≤◌, ◌<◌}
-use native.Mathlib.Omega.{arith}
-use lib.ListN.{length, get_or, length-set}
-use lib.Seq.{get_or-set_other, ext_get_or}
-use Rattle.laws.proofs.Orders.{le_or_lt}
+use lib.ListN.{length, get_or}
 use Rattle.tables.specs.Slots.{empty}
-use Rattle.tables.proofs.Laws.{upto_set, all_empty}
 use Rattle.pair_table.proofs.changing.move_back.Given as goal
 
 abbrev pub invariant-loop-i : goal.invariant-loop-i

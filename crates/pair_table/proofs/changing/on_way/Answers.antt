@@ -1,7 +1,5 @@
 -- `pair_table::changing::on_way` meets its contract. Assumes nothing.
 use mathlib.Core.Path.{◌≡◌}
-use Prim.Native.Nat.{◌-◌}
-use borrow.Author.Rules.{rules}
 use Rattle.tables.specs.Shapes.{apart}
 use Rattle.tables.proofs.Shift.{apart_only}
 use Rattle.pair_table.proofs.changing.on_way.Goals as goal

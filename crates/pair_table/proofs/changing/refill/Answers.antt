@@ -1,7 +1,6 @@
 -- `pair_table::changing::refill` meets its contract. Assumes nothing.
 use mathlib.Core.Path.{◌≡◌, refl, sym, ap, ◌∙◌}
-use mathlib.Core.Logic.{⊎_elim}
-use Prim.Native.Nat.{ℕ, ◌-◌, ◌≤◌}
+use Prim.Native.Nat.{ℕ}
 use native.Mathlib.Omega.{arith}
 use lib.ListN.{get_or, set, length, length-set}
 use Rattle.tables.specs.Changes.{fill, place}
@@ -39,12 +38,12 @@ unfolding place
 loop-i-preserved c =
     let a = c.args in
     elim c.if-x.branch [
-      then-x w ↦ (
+      | then-x w ↦ (
         omega arith,
         ap length w.to-is ∙ simp length-set c.loop-i.invariant.1,
         w.to-is ∙ ap (λ (q : ℕ). set c.loop-i.to q (get_or a.from.now c.loop-i.i 0)) w.lookup-q.ensures.0 ∙ rw c.loop-i.invariant.2 (sym (fill_one a.from.now c.loop-i.i a.to.now a.lg a.v w.if-x.true)),
       )
-    | else-x w ↦ (omega arith, ap length w.to-is ∙ c.loop-i.invariant.1, w.to-is ∙ c.loop-i.invariant.2 ∙ sym (fill_none a.from.now c.loop-i.i a.to.now a.lg a.v w.if-x.false))
+      | else-x w ↦ (omega arith, ap length w.to-is ∙ c.loop-i.invariant.1, w.to-is ∙ c.loop-i.invariant.2 ∙ sym (fill_none a.from.now c.loop-i.i a.to.now a.lg a.v w.if-x.false))
     ]
 
 pub shape_of-to : goal.shape_of-to

@@ -1,11 +1,8 @@
 -- `pair_table::changing::refill`: what its loops keep true, and why they end. Assumes nothing.
-use mathlib.Core.Path.{◌≡◌, refl, sym, ap, ◌∙◌}
-use mathlib.Core.Logic.{⊎_elim}
-use Prim.Native.Nat.{ℕ, ◌-◌, ◌≤◌}
-use native.Mathlib.Omega.{arith}
-use lib.ListN.{get_or, set, length, length-set}
-use Rattle.tables.specs.Changes.{fill, place}
-use Rattle.tables.proofs.Refilled.{fill_none, fill_one}
+use mathlib.Core.Path.{◌≡◌}
+use Prim.Native.Nat.{◌-◌, ◌≤◌}
+use lib.ListN.{length}
+use Rattle.tables.specs.Changes.{fill}
 use Rattle.pair_table.proofs.changing.refill.Given as goal
 
 abbrev pub invariant-loop-i : goal.invariant-loop-i

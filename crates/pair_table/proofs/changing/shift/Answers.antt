@@ -1,14 +1,12 @@
 -- `pair_table::changing::shift` meets its contract. Assumes nothing.
 use mathlib.Core.Path.{◌≡◌, sym, ap, ◌∙◌}
-use mathlib.Core.Logic.{⊎_elim}
-use Prim.Native.Nat.{ℕ, ◌-◌, ◌^◌}
+use Prim.Native.Nat.{ℕ, ◌^◌}
 use native.Mathlib.Omega.{arith}
 use lib.ListN.{get_or, length-set}
 use lib.Dec.{leb}
-use borrow.Author.Rules.{rules}
 use Rattle.tables.specs.Slots.{home, next}
 use Rattle.tables.specs.Shapes.{apart}
-use Rattle.pair_table.proofs.Deleting.{Shifting, shift_begins, shift_ends, shift_out, shift_moves, shift_stays}
+use Rattle.pair_table.proofs.Deleting.{shift_begins, shift_ends, shift_out, shift_moves, shift_stays}
 use Rattle.pair_table.proofs.changing.shift.Goals as goal
 use Rattle.pair_table.proofs.changing.shift.Goals.{then-on_way, else-on_way}
 
@@ -72,8 +70,8 @@ loop-left-preserved c =
     let w : c.on_way.result ≡ leb (apart (2 ^ c.args.lg) k.h k.p) (apart (2 ^ c.args.lg) (home c.args.lg c.args.v y) k.p) = rw (z, c.home_of-home.ensures.0) at c.on_way.ensures in (
       z,
       elim c.if-on_way.branch [
-        then-on_way i ↦ rw (i.slots-is, i.h-is) (shift_moves c.args.slots.now k.slots c.args.lg c.args.v c.args.hole k.h k.p k.left k.invariant.1 c.requires.le_lg.4 m f c.step-p-in-loop-left.result e (sym w ∙ i.if-on_way.true))
-      | else-on_way i ↦ rw (i.slots-is, i.h-is) (shift_stays c.args.slots.now k.slots c.args.lg c.args.v c.args.hole k.h k.p k.left k.invariant.1 c.requires.le_lg.4 m f c.step-p-in-loop-left.result e (sym w ∙ i.if-on_way.false))
+        | then-on_way i ↦ rw (i.slots-is, i.h-is) (shift_moves c.args.slots.now k.slots c.args.lg c.args.v c.args.hole k.h k.p k.left k.invariant.1 c.requires.le_lg.4 m f c.step-p-in-loop-left.result e (sym w ∙ i.if-on_way.true))
+        | else-on_way i ↦ rw (i.slots-is, i.h-is) (shift_stays c.args.slots.now k.slots c.args.lg c.args.v c.args.hole k.h k.p k.left k.invariant.1 c.requires.le_lg.4 m f c.step-p-in-loop-left.result e (sym w ∙ i.if-on_way.false))
       ],
     )
 

@@ -1,14 +1,7 @@
 -- `pair_table::changing::shift`: what its loops keep true, and why they end. Assumes nothing.
-use mathlib.Core.Path.{◌≡◌, sym, ap, ◌∙◌}
-use mathlib.Core.Logic.{⊎_elim}
-use Prim.Native.Nat.{ℕ, ◌-◌, ◌^◌}
-use native.Mathlib.Omega.{arith}
-use lib.ListN.{get_or, length-set}
-use lib.Dec.{leb}
-use borrow.Author.Rules.{rules}
-use Rattle.tables.specs.Slots.{home, next}
-use Rattle.tables.specs.Shapes.{apart}
-use Rattle.pair_table.proofs.Deleting.{Shifting, shift_begins, shift_ends, shift_out, shift_moves, shift_stays}
+use mathlib.Core.Path.{◌≡◌}
+use Prim.Native.Nat.{◌^◌}
+use Rattle.pair_table.proofs.Deleting.{Shifting}
 use Rattle.pair_table.proofs.changing.shift.Given as goal
 
 abbrev pub invariant-loop-left : goal.invariant-loop-left

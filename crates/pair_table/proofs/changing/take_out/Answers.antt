@@ -1,9 +1,8 @@
 -- `pair_table::changing::take_out` meets its contract. Assumes nothing.
 use mathlib.Core.Path.{refl, ◌∙◌}
-use Prim.Native.Nat.{◌-◌, ◌^◌, ◌<◌}
+use Prim.Native.Nat.{◌^◌, ◌<◌}
 use native.Mathlib.Omega.{arith}
 use lib.ListN.{length, length-set}
-use borrow.Author.Rules.{rules}
 use Rattle.tables.specs.Slots.{empty}
 use Rattle.tables.proofs.Placing.{small_set}
 use Rattle.pair_table.proofs.Deleting.{taken_out}

@@ -1,8 +1,7 @@
 -- `pair_table::changing::wipe` meets its contract. Assumes nothing.
-use mathlib.Core.Path.{◌≡◌, refl}
-use Prim.Native.Nat.{ℕ, ◌-◌, ◌≤◌, ◌<◌}
+use mathlib.Core.Path.{refl}
 use native.Mathlib.Omega.{arith}
-use lib.ListN.{length, length-set, get_or}
+use lib.ListN.{length-set}
 use Rattle.tables.specs.Slots.{empty}
 use Rattle.tables.proofs.Laws.{upto_set, all_empty}
 use Rattle.pair_table.proofs.changing.wipe.Goals as goal

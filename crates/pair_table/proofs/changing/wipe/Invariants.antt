@@ -1,10 +1,8 @@
 -- `pair_table::changing::wipe`: what its loops keep true, and why they end. Assumes nothing.
-use mathlib.Core.Path.{◌≡◌, refl}
+use mathlib.Core.Path.{◌≡◌}
 use Prim.Native.Nat.{ℕ, ◌-◌, ◌≤◌, ◌<◌}
-use native.Mathlib.Omega.{arith}
-use lib.ListN.{length, length-set, get_or}
+use lib.ListN.{length, get_or}
 use Rattle.tables.specs.Slots.{empty}
-use Rattle.tables.proofs.Laws.{upto_set, all_empty}
 use Rattle.pair_table.proofs.changing.wipe.Given as goal
 
 abbrev pub invariant-loop-i : goal.invariant-loop-i

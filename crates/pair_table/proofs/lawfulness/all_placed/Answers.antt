@@ -1,10 +1,8 @@
 -- `pair_table::lawfulness::all_placed` meets its contract. Assumes nothing.
-use mathlib.Core.Logic.{⊎_elim}
-use Prim.Native.Nat.{◌+◌, ◌-◌, ◌^◌, ◌≤◌, ◌<◌}
+use Prim.Native.Nat.{◌^◌}
 use native.Mathlib.Omega.{arith}
 use lib.Pow.{pow_pos}
 use borrow.Author.Tests.{not-true, not-false}
-use borrow.Author.Rules.{rules}
 use Rattle.tables.specs.Shapes.{AllPlaced, RunUp}
 use Rattle.tables.proofs.Laws.{says_yes, says_no, placed_more}
 use Rattle.tables.proofs.Paths.{run_none, run_more}
@@ -44,8 +42,8 @@ loop-p-preserved c =
     let a = c.args in
     let u : RunUp a.slots.now c.size-n.result c.loop-p.p c.loop-p.len c.loop-p.top = c.loop-p.invariant.3 c.loop-p-test.true in
     elim c.if-x.branch [
-      then-x w ↦ (omega arith, omega arith, placed_more a.slots.now _ _ _ c.loop-p.invariant.2 (λ f. absurd (f w.if-x.true)), λ h. rw (w.len-is, w.top-is) (run_none a.slots.now _ _ _ h))
-    | else-x+else-not-placed_at w ↦ (
+      | then-x w ↦ (omega arith, omega arith, placed_more a.slots.now _ _ _ c.loop-p.invariant.2 (λ f. absurd (f w.if-x.true)), λ h. rw (w.len-is, w.top-is) (run_none a.slots.now _ _ _ h))
+      | else-x+else-not-placed_at w ↦ (
         omega arith,
         omega arith,
         placed_more a.slots.now _ _ _ c.loop-p.invariant.2 (λ f. w.placed_at.ensures.holds (not-false _ w.if-not-placed_at.false-raw)),

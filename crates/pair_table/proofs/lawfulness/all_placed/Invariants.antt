@@ -1,13 +1,6 @@
 -- `pair_table::lawfulness::all_placed`: what its loops keep true, and why they end. Assumes nothing.
-use mathlib.Core.Logic.{⊎_elim}
-use Prim.Native.Nat.{◌+◌, ◌-◌, ◌^◌, ◌≤◌, ◌<◌}
-use native.Mathlib.Omega.{arith}
-use lib.Pow.{pow_pos}
-use borrow.Author.Tests.{not-true, not-false}
-use borrow.Author.Rules.{rules}
+use Prim.Native.Nat.{◌+◌, ◌-◌, ◌≤◌, ◌<◌}
 use Rattle.tables.specs.Shapes.{AllPlaced, RunUp}
-use Rattle.tables.proofs.Laws.{says_yes, says_no, placed_more}
-use Rattle.tables.proofs.Paths.{run_none, run_more}
 use Rattle.pair_table.proofs.lawfulness.all_placed.Given as goal
 
 abbrev pub invariant-loop-p : goal.invariant-loop-p

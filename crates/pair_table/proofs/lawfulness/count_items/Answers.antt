@@ -1,7 +1,6 @@
 -- `pair_table::lawfulness::count_items` meets its contract. Assumes nothing.
 use mathlib.Core.Path.{sym, ap, ◌∙◌, ◌≡◌, refl}
-use mathlib.Core.Logic.{⊎_elim}
-use Prim.Native.Nat.{◌+◌, ◌-◌, ◌≤◌}
+use Prim.Native.Nat.{◌+◌}
 use native.Mathlib.Omega.{arith}
 use Rattle.tables.specs.Slots.{items, total}
 use Rattle.tables.proofs.Laws.{items_full, items_empty}
@@ -29,9 +28,9 @@ loop-i-smaller c = omega arith
 
 pub loop-i-preserved : goal.loop-i-preserved
 loop-i-preserved c = elim c.if-slots-i.branch [
-      then-slots-i w ↦ (omega arith, w.c-is ∙ ap (λ n. n + 1) c.loop-i.invariant.1 ∙ sym (items_full _ _ w.if-slots-i.true), omega arith)
-    | else-slots-i w ↦ (omega arith, w.c-is ∙ c.loop-i.invariant.1 ∙ sym (items_empty _ _ w.if-slots-i.false), omega arith)
-    ]
+  | then-slots-i w ↦ (omega arith, w.c-is ∙ ap (λ n. n + 1) c.loop-i.invariant.1 ∙ sym (items_full _ _ w.if-slots-i.true), omega arith)
+  | else-slots-i w ↦ (omega arith, w.c-is ∙ c.loop-i.invariant.1 ∙ sym (items_empty _ _ w.if-slots-i.false), omega arith)
+]
 
 pub returns : goal.returns
 returns c = let e : c.loop-i.i ≡ c.args.n = omega arith in

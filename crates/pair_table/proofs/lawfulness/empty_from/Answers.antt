@@ -1,8 +1,5 @@
 -- `pair_table::lawfulness::empty_from` meets its contract. Assumes nothing.
-use Prim.Native.Nat.{◌-◌, ◌≤◌}
 use native.Mathlib.Omega.{arith}
-use lib.ListN.{length}
-use Rattle.tables.specs.Shapes.{EmptyFrom}
 use Rattle.tables.proofs.Laws.{says_yes, says_no, empty_more}
 use Rattle.pair_table.proofs.lawfulness.empty_from.Goals as goal
 

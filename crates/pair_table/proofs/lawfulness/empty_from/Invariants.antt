@@ -1,9 +1,7 @@
 -- `pair_table::lawfulness::empty_from`: what its loops keep true, and why they end. Assumes nothing.
 use Prim.Native.Nat.{◌-◌, ◌≤◌}
-use native.Mathlib.Omega.{arith}
 use lib.ListN.{length}
 use Rattle.tables.specs.Shapes.{EmptyFrom}
-use Rattle.tables.proofs.Laws.{says_yes, says_no, empty_more}
 use Rattle.pair_table.proofs.lawfulness.empty_from.Given as goal
 
 abbrev pub invariant-loop-i : goal.invariant-loop-i

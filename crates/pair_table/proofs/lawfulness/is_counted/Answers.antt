@@ -1,8 +1,7 @@
 -- `pair_table::lawfulness::is_counted` meets its contract. Assumes nothing.
 use mathlib.Core.Path.{◌≡◌, sym, ◌∙◌}
-use Prim.Native.Nat.{◌-◌, ◌*◌}
+use Prim.Native.Nat.{◌*◌}
 use native.Mathlib.Omega.{arith}
-use borrow.Author.Rules.{rules}
 use borrow.Author.Tests.{leb-true, leb-false}
 use Rattle.tables.proofs.Laws.{says_no}
 use Rattle.pair_table.proofs.lawfulness.is_counted.Goals as goal

@@ -1,7 +1,5 @@
 -- `pair_table::lawfulness::is_lawful` meets its contract. Assumes nothing.
-use Prim.Native.Nat.{◌-◌}
 use native.Mathlib.Omega.{arith}
-use borrow.Author.Rules.{rules}
 use borrow.Author.Tests.{not-true, not-false}
 use Rattle.tables.proofs.Laws.{says_no}
 use Rattle.pair_table.proofs.lawfulness.is_lawful.Goals as goal

@@ -1,5 +1,4 @@
 -- `pair_table::lawfulness::is_sized` meets its contract. Assumes nothing.
-use Prim.Native.Nat.{◌-◌}
 use native.Mathlib.Omega.{arith}
 use borrow.Author.Tests.{leb-true, leb-false}
 use Rattle.tables.proofs.Laws.{says_no}

@@ -1,7 +1,6 @@
 -- `pair_table::lawfulness::judge_growth` meets its contract. Assumes nothing.
-use Prim.Native.Nat.{◌-◌, ◌^◌, ◌≤◌, ◌<◌}
+use Prim.Native.Nat.{◌^◌, ◌≤◌, ◌<◌}
 use lib.ListN.{length}
-use borrow.Author.Rules.{rules}
 use borrow.Author.Tests.{lt-ltb, le-ltb, le-leb, lt-leb}
 use Rattle.tables.specs.Calls.{growth_judged}
 use Rattle.pair_table.proofs.lawfulness.judge_growth.Goals as goal

@@ -1,7 +1,6 @@
 -- `pair_table::lawfulness::judge_item` meets its contract. Assumes nothing.
 use mathlib.Core.Logic.{⊎_elim}
-use Prim.Native.Nat.{ℕ, ◌-◌, ◌^◌, ◌≤◌, ◌<◌}
-use borrow.Author.Rules.{rules}
+use Prim.Native.Nat.{ℕ, ◌^◌, ◌≤◌, ◌<◌}
 use borrow.Author.Tests.{not-true, not-false, eq-eqb, ne_eqb, le-leb, lt-leb}
 use Rattle.laws.proofs.Orders.{le_or_lt}
 use Rattle.tables.specs.Calls.{item_judged}

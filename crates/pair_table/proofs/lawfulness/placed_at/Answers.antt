@@ -3,7 +3,6 @@ use mathlib.Core.Path.{◌≡◌, sym, ◌∙◌}
 use native.Mathlib.Omega.{arith}
 use lib.ListN.{get_or}
 use borrow.Author.Tests.{eqb-true, eqb-false, not-true, not-false}
-use borrow.Author.Rules.{rules}
 use Rattle.tables.specs.Slots.{spot}
 use Rattle.tables.proofs.Laws.{says_yes, says_no}
 use Rattle.tables.proofs.Paths.{run_placed}

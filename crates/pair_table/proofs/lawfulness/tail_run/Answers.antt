@@ -1,11 +1,9 @@
 -- `pair_table::lawfulness::tail_run` meets its contract. Assumes nothing.
 use mathlib.Core.Logic.{⊎_elim}
 use mathlib.Core.Path.{◌≡◌}
-use Prim.Native.Nat.{ℕ, ◌+◌, ◌-◌, ◌≤◌, ◌<◌}
+use Prim.Native.Nat.{◌-◌, ◌≤◌}
 use native.Mathlib.Nat.{le_trans, eq-or-lt_of_le}
 use native.Mathlib.Omega.{arith}
-use lib.ListN.{get_or}
-use Rattle.tables.specs.Slots.{empty}
 use Rattle.tables.proofs.Paths.{run_tail}
 use Rattle.pair_table.proofs.lawfulness.tail_run.Goals as goal
 

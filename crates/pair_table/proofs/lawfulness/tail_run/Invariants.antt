@@ -1,12 +1,8 @@
 -- `pair_table::lawfulness::tail_run`: what its loops keep true, and why they end. Assumes nothing.
-use mathlib.Core.Logic.{⊎_elim}
 use mathlib.Core.Path.{◌≡◌}
-use Prim.Native.Nat.{ℕ, ◌+◌, ◌-◌, ◌≤◌, ◌<◌}
-use native.Mathlib.Nat.{le_trans, eq-or-lt_of_le}
-use native.Mathlib.Omega.{arith}
+use Prim.Native.Nat.{ℕ, ◌+◌, ◌≤◌, ◌<◌}
 use lib.ListN.{get_or}
 use Rattle.tables.specs.Slots.{empty}
-use Rattle.tables.proofs.Paths.{run_tail}
 use Rattle.pair_table.proofs.lawfulness.tail_run.Given as goal
 
 abbrev pub invariant-loop-i : goal.invariant-loop-i

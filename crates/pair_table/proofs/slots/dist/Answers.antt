@@ -1,6 +1,5 @@
 -- `pair_table::slots::dist` meets its contract. Assumes nothing.
 use native.Mathlib.Omega.{arith}
-use borrow.Author.Rules.{rules}
 use Rattle.tables.proofs.Stepping.{steps_ahead, steps_behind}
 use Rattle.pair_table.proofs.slots.dist.Goals as goal
 

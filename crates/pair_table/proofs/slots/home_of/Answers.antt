@@ -3,7 +3,6 @@ use mathlib.Core.Path.{refl}
 use Prim.Native.Nat.{◌-◌}
 use native.Mathlib.Omega.{arith}
 use lib.Pow.{shr_le}
-use borrow.Author.Rules.{rules}
 use Rattle.tables.specs.Slots.{home}
 use Rattle.tables.proofs.Laws.{home_lt}
 use Rattle.pair_table.proofs.slots.home_of.Goals as goal

@@ -1,7 +1,6 @@
 -- `pair_table::slots::lookup` meets its contract. Assumes nothing.
 use mathlib.Core.Path.{◌∙◌}
 use native.Mathlib.Omega.{arith}
-use borrow.Author.Rules.{rules}
 use Rattle.tables.specs.Slots.{spot}
 use Rattle.pair_table.proofs.slots.lookup.Goals as goal
 

@@ -1,6 +1,6 @@
 -- `pair_table::slots::seek` meets its contract. Assumes nothing.
 use mathlib.Core.Path.{◌≡◌, refl, sym, ◌∙◌, ap}
-use Prim.Native.Nat.{◌-◌, ◌<◌}
+use Prim.Native.Nat.{◌-◌}
 use native.Mathlib.Omega.{arith}
 use Rattle.tables.specs.Slots.{next, probe}
 use Rattle.tables.proofs.Laws.{stops_same, stops_empty, stops_not, probe_stop, probe_go, probe_out}

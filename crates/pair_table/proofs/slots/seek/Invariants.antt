@@ -1,9 +1,7 @@
 -- `pair_table::slots::seek`: what its loops keep true, and why they end. Assumes nothing.
-use mathlib.Core.Path.{◌≡◌, refl, sym, ◌∙◌, ap}
-use Prim.Native.Nat.{◌-◌, ◌<◌}
-use native.Mathlib.Omega.{arith}
-use Rattle.tables.specs.Slots.{next, probe}
-use Rattle.tables.proofs.Laws.{stops_same, stops_empty, stops_not, probe_stop, probe_go, probe_out}
+use mathlib.Core.Path.{◌≡◌}
+use Prim.Native.Nat.{◌<◌}
+use Rattle.tables.specs.Slots.{probe}
 use Rattle.pair_table.proofs.slots.seek.Given as goal
 
 abbrev pub invariant-loop-left : goal.invariant-loop-left

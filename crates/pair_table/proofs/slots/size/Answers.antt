@@ -3,7 +3,6 @@ use Prim.Native.Nat.{◌<◌, ◌^◌}
 use native.Mathlib.Omega.{arith}
 use native.Mathlib.Nat.{mod-eq_of_lt, one-mul}
 use lib.Pow.{pow-lt}
-use borrow.Author.Rules.{rules}
 use Rattle.pair_table.proofs.slots.size.Goals as goal
 
 pub returns : goal.returns

@@ -1,7 +1,6 @@
 -- `pair_table::slots::step` meets its contract. Assumes nothing.
 use mathlib.Core.Path.{sym}
 use native.Mathlib.Omega.{arith}
-use borrow.Author.Rules.{rules}
 use Rattle.tables.proofs.Laws.{next_wrap, next_inner}
 use Rattle.pair_table.proofs.slots.step.Goals as goal
 

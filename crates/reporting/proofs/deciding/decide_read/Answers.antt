@@ -4,7 +4,6 @@ use Rattle.reporting.proofs.Stepping.{front_length}
 use mathlib.Core.Path.{sym, ◌∙◌}
 use borrow.Author.Tests.{not-true, not-false, lt-ltb, le-ltb}
 use Rattle.reporting.specs.Calls.{read_decided}
-use borrow.Author.Rules.{rules}
 use Rattle.reporting.proofs.deciding.decide_read.Goals as goal
 
 pub returns-then-pairs-count : goal.returns-then-pairs-count

@@ -7,7 +7,6 @@ use Rattle.numbers.specs.Told.{told_number}
 use Rattle.compression.proofs.WrittenCalls.{judged_refused}
 use Rattle.reporting.specs.Calls.{told_decision, rest_of}
 use Rattle.reporting.proofs.Numbered.{numbers_told}
-use borrow.Author.Rules.{rules}
 use Rattle.reporting.proofs.deciding.number.Goals as goal
 
 pub returns-in-Refused : goal.returns-in-Refused

@@ -2,7 +2,6 @@
 use mathlib.Core.Path.{sym, ap, ◌∙◌}
 use Rattle.numbers.specs.Told.{told_flavor, told_number, flavor_number}
 use Rattle.reporting.proofs.Numbered.{flavor_refused, base_refused, rest_told}
-use borrow.Author.Rules.{rules}
 use Rattle.reporting.proofs.deciding.number_rest.Goals as goal
 
 pub returns-in-Refused : goal.returns-in-Refused

@@ -1,7 +1,6 @@
 -- `reporting::deciding::write` meets its contract. Assumes nothing.
 use Rattle.reporting.specs.Calls.{told_decision}
 use Rattle.reporting.proofs.Numbered.{written_refused, written_told}
-use borrow.Author.Rules.{rules}
 use Rattle.reporting.proofs.deciding.write.Goals as goal
 
 pub returns-in-Refused : goal.returns-in-Refused

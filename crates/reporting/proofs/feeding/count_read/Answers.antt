@@ -1,7 +1,6 @@
 -- `reporting::feeding::count_read` meets its contract. Assumes nothing.
 use mathlib.Core.Path.{◌∙◌}
 use borrow.Author.Tests.{lt-ltb, le-ltb}
-use borrow.Author.Rules.{rules}
 use Rattle.reporting.proofs.feeding.count_read.Goals as goal
 
 pub returns-then-count-gt4096 : goal.returns-then-count-gt4096

@@ -1,6 +1,5 @@
 -- `reporting::feeding::is_done` meets its contract. Assumes nothing.
 use borrow.Author.Tests.{lt-leb, le-leb}
-use borrow.Author.Rules.{rules}
 use Rattle.reporting.proofs.feeding.is_done.Goals as goal
 
 pub returns-then-reading-ge2 : goal.returns-then-reading-ge2

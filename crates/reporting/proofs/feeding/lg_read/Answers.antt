@@ -1,7 +1,6 @@
 -- `reporting::feeding::lg_read` meets its contract. Assumes nothing.
 use mathlib.Core.Path.{◌∙◌}
 use borrow.Author.Tests.{lt-ltb, le-ltb}
-use borrow.Author.Rules.{rules}
 use Rattle.reporting.proofs.feeding.lg_read.Goals as goal
 
 pub returns-then-lg-lt4 : goal.returns-then-lg-lt4

@@ -7,7 +7,6 @@ use Prim.Native.Nat.{◌-◌}
 use Rattle.reporting.specs.Machine.{held, line_read}
 use Rattle.reporting.specs.declared.Progress.{Progress}
 use Rattle.reporting.proofs.Stepping.{undone}
-use borrow.Author.Rules.{rules}
 use Rattle.reporting.proofs.feeding.line_read.Goals as goal
 
 pub returns-then-reading-eq0 : goal.returns-then-reading-eq0

@@ -2,7 +2,6 @@
 use mathlib.Core.Path.{sym, ap, ◌∙◌}
 use Rattle.reporting.specs.Machine.{step_of}
 use Rattle.reporting.specs.declared.Progress.{Progress}
-use borrow.Author.Rules.{rules}
 use Rattle.reporting.proofs.feeding.step.Goals as goal
 
 pub returns-in-Reading : goal.returns-in-Reading

@@ -4,7 +4,6 @@ use native.Mathlib.Omega.{arith}
 use borrow.Author.Tests.{lt-ltb, le-ltb}
 use Rattle.reporting.specs.Machine.{reading_step, moved}
 use Rattle.reporting.proofs.Moving.{as_told}
-use borrow.Author.Rules.{rules}
 use Rattle.reporting.proofs.feeding.step_reading.Goals as goal
 
 pub returns-then-pairs-reading : goal.returns-then-pairs-reading

@@ -7,7 +7,6 @@ use native.Mathlib.Omega.{arith}
 use lib.ListN.{length}
 use Rattle.reporting.proofs.Stepping.{front_length}
 use Rattle.reporting.proofs.Laying.{printed, name_put}
-use borrow.Author.Rules.{rules}
 use Rattle.reporting.proofs.lines.name_word.Goals as goal
 
 pub put-requires : goal.put-requires

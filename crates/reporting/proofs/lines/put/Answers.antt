@@ -1,6 +1,6 @@
 -- `reporting::lines::put` meets its contract. Assumes nothing.
 use lib.ListN.{length-set}
-use Prim.Native.Nat.{◌+◌, ◌-◌, ◌≤◌}
+use Prim.Native.Nat.{◌+◌}
 use mathlib.Core.Path.{◌≡◌, ap, ◌∙◌}
 use native.Mathlib.Omega.{arith}
 use borrow.Author.Rules.{rules}

@@ -1,12 +1,8 @@
 -- `reporting::lines::put`: what its loops keep true, and why they end. Assumes nothing.
-use lib.ListN.{length-set}
-use Prim.Native.Nat.{◌+◌, ◌-◌, ◌≤◌}
-use mathlib.Core.Path.{◌≡◌, ap, ◌∙◌}
-use native.Mathlib.Omega.{arith}
-use borrow.Author.Rules.{rules}
+use Prim.Native.Nat.{◌-◌, ◌≤◌}
+use mathlib.Core.Path.{◌≡◌}
 use lib.ListN.{length}
-use lib.Seq.{paste, paste-zero}
-use Rattle.reporting.proofs.Laying.{paste_turn}
+use lib.Seq.{paste}
 use Rattle.reporting.proofs.lines.put.Given as goal
 
 abbrev pub invariant-loop-i : goal.invariant-loop-i

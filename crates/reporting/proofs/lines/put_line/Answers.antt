@@ -1,6 +1,5 @@
 -- `reporting::lines::put_line` meets its contract. Assumes nothing.
 use Rattle.reporting.proofs.Laying.{no_room, room}
-use borrow.Author.Rules.{rules}
 use Rattle.reporting.proofs.lines.put_line.Goals as goal
 
 pub returns-then-out-name : goal.returns-then-out-name

@@ -7,7 +7,6 @@ use mathlib.Core.List.{◌++◌}
 use Rattle.reporting.specs.Lines.{decimal}
 use Rattle.reporting.specs.Report.{word_name}
 use Rattle.reporting.proofs.Laying.{named_printed}
-use borrow.Author.Rules.{rules}
 use Rattle.reporting.proofs.lines.put_word.Goals as goal
 
 pub put_number-requires : goal.put_number-requires

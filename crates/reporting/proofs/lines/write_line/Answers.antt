@@ -1,5 +1,4 @@
 -- `reporting::lines::write_line` meets its contract. Assumes nothing.
-use borrow.Author.Rules.{rules}
 use Rattle.reporting.proofs.Laying.{line_put}
 use Rattle.reporting.proofs.lines.write_line.Goals as goal
 

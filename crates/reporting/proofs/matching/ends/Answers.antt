@@ -1,5 +1,4 @@
 -- `reporting::matching::ends` meets its contract. Assumes nothing.
-use borrow.Author.Rules.{rules}
 use Rattle.reporting.proofs.matching.ends.Goals as goal
 
 pub returns-then-digits : goal.returns-then-digits

@@ -2,7 +2,6 @@
 use mathlib.Core.Path.{sym, ap, ◌∙◌}
 use Rattle.reporting.specs.Machine.{move_of}
 use Rattle.reporting.specs.declared.Field.{Field}
-use borrow.Author.Rules.{rules}
 use Rattle.reporting.proofs.matching.follow.Goals as goal
 
 pub returns-in-Name : goal.returns-in-Name

@@ -3,7 +3,6 @@ use mathlib.Core.Path.{ap, ◌∙◌}
 use Rattle.reporting.specs.Machine.{letter_move}
 use Rattle.reporting.specs.declared.matching.Move.TheVariants as move
 use Rattle.reporting.proofs.Moving.{as_told}
-use borrow.Author.Rules.{rules}
 use Rattle.reporting.proofs.matching.follow_name.Goals as goal
 
 pub returns-in-Last : goal.returns-in-Last

@@ -3,7 +3,6 @@ use mathlib.Core.Path.{sym, ◌∙◌}
 use Rattle.reporting.specs.Machine.{digits_move}
 use Rattle.reporting.specs.declared.Field.TheVariants as field
 use Rattle.reporting.proofs.Moving.{as_told}
-use borrow.Author.Rules.{rules}
 use Rattle.reporting.proofs.matching.follow_number.Goals as goal
 
 pub returns-then-ends : goal.returns-then-ends

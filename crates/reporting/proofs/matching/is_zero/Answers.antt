@@ -1,5 +1,4 @@
 -- `reporting::matching::is_zero` meets its contract. Assumes nothing.
-use borrow.Author.Rules.{rules}
 use Rattle.reporting.proofs.matching.is_zero.Goals as goal
 
 pub returns-then-digits : goal.returns-then-digits

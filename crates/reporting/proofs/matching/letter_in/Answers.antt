@@ -1,7 +1,6 @@
 -- `reporting::matching::letter_in` meets its contract. Assumes nothing.
 use mathlib.Core.Path.{◌∙◌}
 use borrow.Author.Tests.{eq-eqb, ne_eqb}
-use borrow.Author.Rules.{rules}
 use Rattle.reporting.proofs.matching.letter_in.Goals as goal
 
 pub returns-then-line-eq0 : goal.returns-then-line-eq0

@@ -1,6 +1,5 @@
 -- `reporting::matching::letter_of` meets its contract. Assumes nothing.
 use borrow.Author.Tests.{lt-ltb, le-ltb, eq-eqb, ne_eqb}
-use borrow.Author.Rules.{rules}
 use Rattle.reporting.proofs.matching.letter_of.Goals as goal
 
 pub returns-then-name-at : goal.returns-then-name-at

@@ -2,7 +2,6 @@
 use mathlib.Core.Path.{sym, ◌∙◌}
 use borrow.Author.Tests.{not-true, not-false, lt-ltb, le-ltb}
 use Rattle.reporting.proofs.Moving.{a_digit}
-use borrow.Author.Rules.{rules}
 use Rattle.reporting.proofs.matching.with_digit.Goals as goal
 
 pub returns-then-not-is_digit : goal.returns-then-not-is_digit

@@ -4,7 +4,6 @@ use Rattle.numbers.specs.declared.Flavor.{Flavor}
 use Rattle.reporting.specs.Lines.{line}
 use Rattle.reporting.specs.Report.{flavor_name, flavor_word}
 use Rattle.reporting.specs.Calls.{line_into}
-use borrow.Author.Rules.{rules}
 use Rattle.reporting.proofs.saying.say_flavor.Goals as goal
 
 pub returns-in-Empty : goal.returns-in-Empty

@@ -3,7 +3,6 @@ use mathlib.Core.Path.{◌≡◌, ap, ◌∙◌}
 use Prim.Native.Nat.{ℕ}
 use native.Mathlib.Omega.{arith}
 use Rattle.reporting.specs.Calls.{said_into, nth, report_head}
-use borrow.Author.Rules.{rules}
 use Rattle.reporting.proofs.saying.say_head.Goals as goal
 
 pub returns-in-0 : goal.returns-in-0

@@ -3,7 +3,6 @@ use mathlib.Core.Path.{◌≡◌, ap, ◌∙◌}
 use Prim.Native.Nat.{ℕ}
 use native.Mathlib.Omega.{arith}
 use Rattle.reporting.specs.Calls.{said_into, nth, report_head}
-use borrow.Author.Rules.{rules}
 use Rattle.reporting.proofs.saying.say_numbers.Goals as goal
 
 pub returns-in-3 : goal.returns-in-3

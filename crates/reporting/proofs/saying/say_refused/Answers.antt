@@ -8,7 +8,6 @@ use Rattle.reporting.specs.Lines.{decimal, line}
 use Rattle.reporting.specs.Report.{refused_name}
 use Rattle.reporting.specs.Calls.{Said, said_into, nth}
 use Rattle.reporting.proofs.Listed.{nth_second}
-use borrow.Author.Rules.{rules}
 use Rattle.reporting.proofs.saying.say_refused.Goals as goal
 
 pub returns-then-i-gt0 : goal.returns-then-i-gt0

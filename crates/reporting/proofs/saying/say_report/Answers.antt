@@ -1,7 +1,6 @@
 -- `reporting::saying::say_report` meets its contract. Assumes nothing.
 use borrow.Author.Tests.{lt-ltb, le-ltb}
 use Rattle.reporting.specs.Calls.{report_said}
-use borrow.Author.Rules.{rules}
 use Rattle.reporting.proofs.saying.say_report.Goals as goal
 
 pub returns-then-i-lt7 : goal.returns-then-i-lt7

@@ -6,7 +6,6 @@ use borrow.Author.Tests.{lt-ltb, le-ltb}
 use Rattle.reporting.specs.Lines.{decimal, line}
 use Rattle.reporting.specs.Report.{word_name}
 use Rattle.reporting.specs.Calls.{line_into}
-use borrow.Author.Rules.{rules}
 use Rattle.reporting.proofs.saying.say_word.Goals as goal
 
 pub returns-then-index-stream : goal.returns-then-index-stream

@@ -4,7 +4,6 @@ use Prim.Native.Nat.{ℕ, ◌*◌}
 use native.Mathlib.Omega.{arith}
 use Rattle.streams.specs.Stream.{number, bits_at}
 use Rattle.compression.proofs.ReaderStream.{four_bytes}
-use borrow.Author.Rules.{rules}
 use Rattle.reporting.proofs.saying.word_at.Goals as goal
 
 times_8 : (i : ℕ) → 8 * (i * 4) ≡ 32 * i

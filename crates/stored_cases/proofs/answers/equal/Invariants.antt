@@ -1,6 +1,5 @@
 -- `stored_cases::answers::equal`: what its loops keep true, and why they end. Assumes nothing.
 use Prim.Native.Nat.{◌≤◌, ◌-◌}
-use borrow.Author.Rules.{rules}
 use Rattle.stored_cases.proofs.answers.equal.Given as goal
 
 abbrev pub invariant-loop-i : goal.invariant-loop-i

@@ -1,6 +1,5 @@
 -- `stored_cases::lists_u16::equal`: what its loops keep true, and why they end. Assumes nothing.
 use Prim.Native.Nat.{◌≤◌, ◌-◌}
-use borrow.Author.Rules.{rules}
 use lib.ListN.{length}
 use Rattle.stored_cases.proofs.lists_u16.equal.Given as goal
 

@@ -1,7 +1,6 @@
 -- `stored_cases::lists_u32::narrow`: what its loops keep true, and why they end. Assumes nothing.
 use Prim.Native.Nat.{◌≤◌, ◌-◌}
 use mathlib.Core.Path.{◌≡◌}
-use borrow.Author.Rules.{rules}
 use lib.ListN.{length}
 use Rattle.stored_cases.proofs.lists_u32.narrow.Given as goal
 

@@ -1,7 +1,6 @@
 -- `stored_cases::runs::push_all`: what its loops keep true, and why they end. Assumes nothing.
 use Prim.Native.Nat.{◌≤◌, ◌-◌}
 use mathlib.Core.Path.{◌≡◌}
-use borrow.Author.Rules.{rules}
 use lib.ListN.{length}
 use Rattle.stored_cases.proofs.runs.push_all.Given as goal
 

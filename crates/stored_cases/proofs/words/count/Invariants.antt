@@ -1,6 +1,5 @@
 -- `stored_cases::words::count`: what its loops keep true, and why they end. Assumes nothing.
 use Prim.Native.Nat.{◌≤◌, ◌-◌}
-use borrow.Author.Rules.{rules}
 use lib.ListN.{length}
 use Rattle.stored_cases.proofs.words.count.Given as goal
 

@@ -1,10 +1,9 @@
 -- `table_listings::extraction::extract_into` meets its contract. Assumes nothing.
 use mathlib.Core.Path.{ap, ◌∙◌}
 use mathlib.Core.List.{◌++◌}
-use Prim.Native.Nat.{ℕ, ◌+◌, ◌-◌, ◌≤◌}
+use Prim.Native.Nat.{ℕ, ◌≤◌}
 use native.Mathlib.Omega.{arith}
 use lib.ListN.{length, take, drop}
-use borrow.Author.Rules.{rules}
 use Rattle.tables.specs.Listings.{extraction}
 use Rattle.tables.proofs.Extraction.{extracted_is}
 use Rattle.table_listings.proofs.extraction.extract_into.Goals as goal

@@ -1,6 +1,5 @@
 -- `table_listings::extraction::extract_items` meets its contract. Assumes nothing.
 use native.Mathlib.Omega.{arith}
-use borrow.Author.Rules.{rules}
 use Rattle.tables.proofs.Extract.{extracted}
 use Rattle.table_listings.proofs.extraction.extract_items.Goals as goal
 

@@ -1,12 +1,10 @@
 -- `table_listings::extraction::take_front` meets its contract. Assumes nothing.
-use mathlib.Core.Path.{◌≡◌}
-use mathlib.Core.Logic.{⊎_elim}
 use Prim.Native.Nat.{◌-◌, ◌^◌, ◌≤◌, ◌<◌}
 use native.Mathlib.Nat.{mod-eq_of_lt, one-mul}
 use native.Mathlib.Omega.{arith}
 use lib.Pow.{pow-lt}
 use lib.ListN.{length}
-use Rattle.tables.proofs.Extract.{Part, apart, part_low, part_high, part_none, part_end}
+use Rattle.tables.proofs.Extract.{apart, part_low, part_high, part_none, part_end}
 use Rattle.table_listings.proofs.extraction.take_front.Goals as goal
 use Rattle.table_listings.proofs.extraction.take_front.Goals.{then-half-x, else-half-x}
 

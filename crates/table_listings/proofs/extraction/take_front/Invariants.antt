@@ -1,12 +1,7 @@
 -- `table_listings::extraction::take_front`: what its loops keep true, and why they end. Assumes nothing.
 use mathlib.Core.Path.{◌≡◌}
-use mathlib.Core.Logic.{⊎_elim}
-use Prim.Native.Nat.{◌-◌, ◌^◌, ◌≤◌, ◌<◌}
-use native.Mathlib.Nat.{mod-eq_of_lt, one-mul}
-use native.Mathlib.Omega.{arith}
-use lib.Pow.{pow-lt}
-use lib.ListN.{length}
-use Rattle.tables.proofs.Extract.{Part, apart, part_low, part_high, part_none, part_end}
+use Prim.Native.Nat.{◌-◌, ◌^◌, ◌≤◌}
+use Rattle.tables.proofs.Extract.{Part}
 use Rattle.table_listings.proofs.extraction.take_front.Given as goal
 
 abbrev pub invariant-loop-i : goal.invariant-loop-i

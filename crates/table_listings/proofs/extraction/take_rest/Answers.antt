@@ -1,9 +1,8 @@
 -- `table_listings::extraction::take_rest` meets its contract. Assumes nothing.
-use mathlib.Core.Logic.{⊎_elim}
-use Prim.Native.Nat.{◌-◌, ◌≤◌, ◌<◌}
+use Prim.Native.Nat.{◌<◌}
 use native.Mathlib.Omega.{arith}
 use lib.ListN.{length}
-use Rattle.tables.proofs.Extract.{placed_in, Onward, onward_none, onward_empty, onward_full, onward_end}
+use Rattle.tables.proofs.Extract.{placed_in, onward_none, onward_empty, onward_full, onward_end}
 use Rattle.table_listings.proofs.extraction.take_rest.Goals as goal
 use Rattle.table_listings.proofs.extraction.take_rest.Goals.{then-x, else-x}
 

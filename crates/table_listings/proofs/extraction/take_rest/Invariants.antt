@@ -1,9 +1,6 @@
 -- `table_listings::extraction::take_rest`: what its loops keep true, and why they end. Assumes nothing.
-use mathlib.Core.Logic.{⊎_elim}
-use Prim.Native.Nat.{◌-◌, ◌≤◌, ◌<◌}
-use native.Mathlib.Omega.{arith}
-use lib.ListN.{length}
-use Rattle.tables.proofs.Extract.{placed_in, Onward, onward_none, onward_empty, onward_full, onward_end}
+use Prim.Native.Nat.{◌-◌, ◌≤◌}
+use Rattle.tables.proofs.Extract.{Onward}
 use Rattle.table_listings.proofs.extraction.take_rest.Given as goal
 
 abbrev pub invariant-loop-i : goal.invariant-loop-i

@@ -1,7 +1,5 @@
 -- `table_listings::walking::onward` meets its contract. Assumes nothing.
-use Prim.Native.Nat.{◌-◌}
 use native.Mathlib.Omega.{arith}
-use borrow.Author.Rules.{rules}
 use Rattle.tables.proofs.Walking.{stride_near, stride_over}
 use Rattle.table_listings.proofs.walking.onward.Goals as goal
 

@@ -1,6 +1,4 @@
 -- `table_listings::walking::stride` meets its contract. Assumes nothing.
-use Prim.Native.Nat.{◌-◌}
-use borrow.Author.Rules.{rules}
 use Rattle.table_listings.proofs.Strides.{stride_found}
 use Rattle.table_listings.proofs.walking.stride.Goals as goal
 

@@ -1,13 +1,10 @@
 -- `table_listings::walking::walk_into` meets its contract. Assumes nothing.
 use mathlib.Core.Path.{◌≡◌, ◌∙◌}
-use mathlib.Core.Logic.{⊎_elim}
-use Prim.Native.Nat.{◌+◌, ◌-◌, ◌*◌, ◌^◌, ◌≤◌, ◌<◌, ◌%◌}
+use Prim.Native.Nat.{◌+◌, ◌*◌, ◌^◌, ◌%◌}
 use native.Mathlib.Omega.{arith}
-use lib.ListN.{length, get_or}
 use lib.Pow.{pow_pos, pow_mono}
-use Rattle.tables.specs.Slots.{empty, items}
+use Rattle.tables.specs.Slots.{items}
 use Rattle.tables.specs.Listings.{stride_at}
-use Rattle.tables.specs.Shapes.{Walking}
 use Rattle.tables.proofs.Walking.{met_room, walking_start, walking_skip, walking_write, walking_end}
 use Rattle.table_listings.proofs.walking.walk_into.Goals as goal
 use Rattle.table_listings.proofs.walking.walk_into.Goals.{then-x, else-x}

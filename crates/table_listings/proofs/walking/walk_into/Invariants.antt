@@ -1,14 +1,8 @@
 -- `table_listings::walking::walk_into`: what its loops keep true, and why they end. Assumes nothing.
-use mathlib.Core.Path.{◌≡◌, ◌∙◌}
-use mathlib.Core.Logic.{⊎_elim}
-use Prim.Native.Nat.{◌+◌, ◌-◌, ◌*◌, ◌^◌, ◌≤◌, ◌<◌, ◌%◌}
-use native.Mathlib.Omega.{arith}
-use lib.ListN.{length, get_or}
-use lib.Pow.{pow_pos, pow_mono}
-use Rattle.tables.specs.Slots.{empty, items}
+use mathlib.Core.Path.{◌≡◌}
+use Prim.Native.Nat.{◌-◌, ◌^◌, ◌≤◌, ◌<◌}
 use Rattle.tables.specs.Listings.{stride_at}
 use Rattle.tables.specs.Shapes.{Walking}
-use Rattle.tables.proofs.Walking.{met_room, walking_start, walking_skip, walking_write, walking_end}
 use Rattle.table_listings.proofs.walking.walk_into.Given as goal
 
 abbrev pub invariant-loop-i : goal.invariant-loop-i

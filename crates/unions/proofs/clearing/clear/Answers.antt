@@ -1,9 +1,7 @@
 -- `unions::clearing::clear` meets its contract. Assumes nothing.
-use borrow.Author.Rules.{rules}
-use Prim.Native.Nat.{◌-◌, ◌≤◌}
 use native.Mathlib.Omega.{arith}
 use lib.ListN.{length}
-use Rattle.unions.proofs.Zeroing.{Cleared, clear_start, clear_turn, clear_end}
+use Rattle.unions.proofs.Zeroing.{clear_start, clear_turn, clear_end}
 use Rattle.unions.proofs.clearing.clear.Goals as goal
 
 pub loop-i-init : goal.loop-i-init

@@ -1,9 +1,7 @@
 -- `unions::clearing::clear`: what its loops keep true, and why they end. Assumes nothing.
-use borrow.Author.Rules.{rules}
 use Prim.Native.Nat.{◌-◌, ◌≤◌}
-use native.Mathlib.Omega.{arith}
 use lib.ListN.{length}
-use Rattle.unions.proofs.Zeroing.{Cleared, clear_start, clear_turn, clear_end}
+use Rattle.unions.proofs.Zeroing.{Cleared}
 use Rattle.unions.proofs.clearing.clear.Given as goal
 
 abbrev pub invariant-loop-i : goal.invariant-loop-i

@@ -1,11 +1,8 @@
 -- `unions::counting::count_ones_in`: what its loops keep true, and why they end. Assumes nothing.
-use borrow.Author.Rules.{rules}
-use mathlib.Core.Path.{◌≡◌, ◌∙◌, ap, sym}
-use Prim.Native.Nat.{ℕ, ◌+◌, ◌*◌, ◌-◌, ◌≤◌}
-use native.Mathlib.Omega.{arith}
-use lib.Count.{ones, ones-le}
-use lib.ListN.{length, get_or}
-use Rattle.matrices.proofs.Counting.{counted, counted_none, counted_more, counted_all}
+use mathlib.Core.Path.{◌≡◌}
+use Prim.Native.Nat.{◌*◌, ◌-◌, ◌≤◌}
+use lib.ListN.{length}
+use Rattle.matrices.proofs.Counting.{counted}
 use Rattle.unions.proofs.counting.count_ones_in.Given as goal
 
 abbrev pub invariant-loop-i : goal.invariant-loop-i

@@ -1,14 +1,9 @@
 -- `unions::filling::flip_pairs`: what its loops keep true, and why they end. Assumes nothing.
-use borrow.Author.Rules.{rules}
-use mathlib.Core.Path.{◌≡◌, ap, ◌∙◌}
-use mathlib.Core.List.{List}
-use Prim.Native.Nat.{ℕ, ◌-◌, ◌/◌, ◌%◌, ◌≤◌, ◌<◌}
-use native.Mathlib.Omega.{arith}
-use lib.Dec.{eqb}
-use lib.ListN.{length, get_or, set, length-set}
-use Rattle.laws.specs.Columns.{word_of, differs}
-use Rattle.matrices.specs.Matrix.{at, matrix_of}
-use Rattle.unions.proofs.Flips.{flipped_to, flip_start, flip_turn, flip_end}
+use mathlib.Core.Path.{◌≡◌}
+use Prim.Native.Nat.{◌-◌, ◌≤◌}
+use lib.ListN.{length}
+use Rattle.matrices.specs.Matrix.{matrix_of}
+use Rattle.unions.proofs.Flips.{flipped_to}
 use Rattle.unions.proofs.filling.flip_pairs.Given as goal
 
 abbrev pub invariant-loop-i : goal.invariant-loop-i

@@ -1,12 +1,9 @@
 -- `unions::judging::count_below`: what its loops keep true, and why they end. Assumes nothing.
-use borrow.Author.Rules.{rules}
-use mathlib.Core.Path.{◌≡◌, ap, ap₂, sym, ◌∙◌}
-use Prim.Native.Nat.{ℕ, ◌+◌, ◌-◌, ◌%◌, ◌≤◌}
-use native.Mathlib.Omega.{arith}
+use mathlib.Core.Path.{◌≡◌}
+use Prim.Native.Nat.{◌-◌, ◌%◌, ◌≤◌}
 use lib.Dec.{ltb}
 use lib.ListN.{length, get_or}
-use Rattle.laws.specs.Below.{one, count_below}
-use Rattle.matrices.proofs.Counting.{sum_none, sum_more}
+use Rattle.laws.specs.Below.{count_below}
 use Rattle.unions.proofs.judging.count_below.Given as goal
 
 abbrev pub invariant-loop-i : goal.invariant-loop-i

@@ -4,7 +4,6 @@ use Prim.Native.Nat.{ℕ, ◌+◌, ◌*◌, ◌≤◌}
 use native.Mathlib.Omega.{arith}
 use lib.Count.{ones, ones-le}
 use Rattle.unions.proofs.EightBytes.{ones_eight}
-use borrow.Author.Rules.{rules}
 use Rattle.unions.proofs.judging.count_eight.Goals as goal
 
 pub overflow_cast-result : goal.overflow_cast-result

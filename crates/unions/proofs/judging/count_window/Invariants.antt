@@ -1,12 +1,9 @@
 -- `unions::judging::count_window`: what its loops keep true, and why they end. Assumes nothing.
-use mathlib.Core.Path.{◌≡◌, ap, ap₂, sym, ◌∙◌}
-use Prim.Native.Nat.{ℕ, ◌+◌, ◌*◌, ◌-◌, ◌%◌, ◌≤◌}
-use native.Mathlib.Omega.{arith}
+use mathlib.Core.Path.{◌≡◌}
+use Prim.Native.Nat.{◌*◌, ◌-◌, ◌%◌, ◌≤◌}
 use lib.Count.{ones}
 use lib.ListN.{length, get_or}
 use Rattle.laws.specs.Below.{sum_below}
-use Rattle.unions.proofs.EightBytes.{eight_more}
-use Rattle.matrices.proofs.Counting.{sum_none}
 use Rattle.unions.proofs.judging.count_window.Given as goal
 
 abbrev pub invariant-loop-i : goal.invariant-loop-i

@@ -1,6 +1,5 @@
 -- `unions::judging::in_window` meets its contract. Assumes nothing.
 use borrow.Author.Tests.{le-leb, lt-leb}
-use borrow.Author.Rules.{rules}
 use Rattle.unions.proofs.judging.in_window.Goals as goal
 
 pub returns-then-column-offset : goal.returns-then-column-offset

@@ -1,11 +1,7 @@
 -- `unions::judging::judge_columns` meets its contract. Assumes nothing.
-use borrow.Author.Rules.{rules}
 use mathlib.Core.Path.{sym, ◌∙◌}
-use Prim.Native.Nat.{◌-◌}
 use native.Mathlib.Omega.{arith}
-use lib.ListN.{length}
-use Rattle.matrices.specs.Source.{columns_judged}
-use Rattle.matrices.proofs.Places.{Passed, columns_start, columns_turn, columns_stop, columns_end}
+use Rattle.matrices.proofs.Places.{columns_start, columns_turn, columns_stop, columns_end}
 use Rattle.unions.proofs.judging.judge_columns.Goals as goal
 
 pub loop-i-init : goal.loop-i-init

@@ -1,11 +1,8 @@
 -- `unions::judging::judge_columns`: what its loops keep true, and why they end. Assumes nothing.
-use borrow.Author.Rules.{rules}
-use mathlib.Core.Path.{sym, ◌∙◌}
 use Prim.Native.Nat.{◌-◌}
-use native.Mathlib.Omega.{arith}
 use lib.ListN.{length}
 use Rattle.matrices.specs.Source.{columns_judged}
-use Rattle.matrices.proofs.Places.{Passed, columns_start, columns_turn, columns_stop, columns_end}
+use Rattle.matrices.proofs.Places.{Passed}
 use Rattle.unions.proofs.judging.judge_columns.Given as goal
 
 abbrev pub invariant-loop-i : goal.invariant-loop-i

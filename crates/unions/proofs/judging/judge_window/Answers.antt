@@ -1,11 +1,7 @@
 -- `unions::judging::judge_window` meets its contract. Assumes nothing.
-use borrow.Author.Rules.{rules}
 use mathlib.Core.Path.{sym, ◌∙◌}
-use Prim.Native.Nat.{◌-◌}
 use native.Mathlib.Omega.{arith}
-use lib.ListN.{length}
-use Rattle.matrices.specs.Source.{window_judged}
-use Rattle.matrices.proofs.Places.{Passed, window_start, window_turn, window_stop, window_end, window_clear}
+use Rattle.matrices.proofs.Places.{window_start, window_turn, window_stop, window_end, window_clear}
 use Rattle.unions.proofs.judging.judge_window.Goals as goal
 
 pub returns-then-offset-le56 : goal.returns-then-offset-le56

@@ -1,11 +1,8 @@
 -- `unions::judging::judge_window`: what its loops keep true, and why they end. Assumes nothing.
-use borrow.Author.Rules.{rules}
-use mathlib.Core.Path.{sym, ◌∙◌}
 use Prim.Native.Nat.{◌-◌}
-use native.Mathlib.Omega.{arith}
 use lib.ListN.{length}
 use Rattle.matrices.specs.Source.{window_judged}
-use Rattle.matrices.proofs.Places.{Passed, window_start, window_turn, window_stop, window_end, window_clear}
+use Rattle.matrices.proofs.Places.{Passed}
 use Rattle.unions.proofs.judging.judge_window.Given as goal
 
 abbrev pub invariant-loop-row : goal.invariant-loop-row

@@ -4,7 +4,6 @@ use Prim.Native.Nat.{ℕ, ◌^◌}
 use native.Mathlib.Omega.{arith}
 use borrow.Author.Tests.{eq-eqb, ne_eqb, le-leb, lt-leb}
 use Rattle.laws.specs.Columns.{has}
-use borrow.Author.Rules.{rules}
 use Rattle.unions.proofs.judging.late_bit.Goals as goal
 
 pub returns-then-lg-ne26 : goal.returns-then-lg-ne26

@@ -1,7 +1,6 @@
 -- `unions::judging::one_below` meets its contract. Assumes nothing.
 use native.Mathlib.Omega.{arith}
 use borrow.Author.Tests.{lt-ltb, le-ltb}
-use borrow.Author.Rules.{rules}
 use Rattle.unions.proofs.judging.one_below.Goals as goal
 
 pub returns-then-pair-offset : goal.returns-then-pair-offset

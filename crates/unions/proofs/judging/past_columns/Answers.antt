@@ -2,7 +2,6 @@
 use mathlib.Core.Path.{sym}
 use native.Mathlib.Omega.{arith}
 use Rattle.matrices.proofs.Places.{past_shift}
-use borrow.Author.Rules.{rules}
 use Rattle.unions.proofs.judging.past_columns.Goals as goal
 
 pub returns : goal.returns

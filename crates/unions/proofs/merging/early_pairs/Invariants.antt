@@ -1,10 +1,8 @@
 -- `unions::merging::early_pairs`: what its loops keep true, and why they end. Assumes nothing.
-use borrow.Author.Rules.{rules}
-use mathlib.Core.Path.{◌≡◌, sym, subst}
-use Prim.Native.Nat.{◌+◌, ◌*◌, ◌-◌, ◌≤◌, ◌<◌}
-use native.Mathlib.Omega.{arith}
+use mathlib.Core.Path.{◌≡◌}
+use Prim.Native.Nat.{◌+◌, ◌*◌, ◌-◌, ◌≤◌}
 use lib.ListN.{length}
-use Rattle.unions.proofs.EarlyPairs.{Taken, take_start, take_turn, take_end}
+use Rattle.unions.proofs.EarlyPairs.{Taken}
 use Rattle.unions.proofs.merging.early_pairs.Given as goal
 
 abbrev pub invariant-loop-i : goal.invariant-loop-i

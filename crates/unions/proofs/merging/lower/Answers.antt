@@ -9,7 +9,6 @@ use lib.ListN.{length}
 use Rattle.laws.specs.Choose.{choose}
 use Rattle.matrices.specs.Matrix.{matrix_of}
 use Rattle.matrices.specs.Shapes.{folded}
-use borrow.Author.Rules.{rules}
 use Rattle.unions.proofs.merging.lower.Goals as goal
 
 pub fold-requires : goal.fold-requires

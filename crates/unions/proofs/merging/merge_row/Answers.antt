@@ -5,7 +5,6 @@ use Prim.Native.Nat.{ℕ}
 use lib.ListN.{set}
 use Rattle.laws.specs.Columns.{has, word_of}
 use Rattle.matrices.specs.Matrix.{at}
-use borrow.Author.Rules.{rules}
 use Rattle.unions.proofs.merging.merge_row.Goals as goal
 
 pub returns : goal.returns

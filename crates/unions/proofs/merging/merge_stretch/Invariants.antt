@@ -1,16 +1,7 @@
 -- `unions::merging::merge_stretch`: what its loops keep true, and why they end. Assumes nothing.
-use borrow.Author.Rules.{rules}
-use mathlib.Core.Path.{◌≡◌, sym, ap, ◌∙◌, subst}
-use mathlib.Core.Bool.{◌||◌}
-use mathlib.Core.List.{List}
-use Prim.Native.Nat.{ℕ, ◌+◌, ◌-◌, ◌%◌, ◌^◌, ◌≤◌, ◌<◌}
-use native.Mathlib.Omega.{arith}
-use lib.ListN.{length, set}
-use lib.Pow.{pow_pos, pow_mono}
-use Rattle.laws.specs.Columns.{has, word_of}
-use Rattle.matrices.specs.Matrix.{at}
+use mathlib.Core.Path.{◌≡◌}
+use Prim.Native.Nat.{◌+◌, ◌-◌, ◌%◌, ◌^◌, ◌≤◌}
 use Rattle.unions.specs.Steps.{Stretched}
-use Rattle.unions.proofs.Stretches.{falls_next, stretch_start, stretch_turn}
 use Rattle.unions.proofs.merging.merge_stretch.Given as goal
 
 abbrev pub invariant-loop-r : goal.invariant-loop-r

@@ -1,10 +1,5 @@
 -- `unions::merging::next_early`: what its loops keep true, and why they end. Assumes nothing.
-use borrow.Author.Rules.{rules}
-use mathlib.Core.Path.{◌≡◌, sym, subst}
-use mathlib.Core.Logic.{⊎_elim}
 use Prim.Native.Nat.{ℕ, ◌-◌, ◌%◌, ◌≤◌, ◌<◌}
-use native.Mathlib.Nat.{eq-or-lt_of_le}
-use native.Mathlib.Omega.{arith}
 use lib.ListN.{length, get_or}
 use Rattle.unions.proofs.merging.next_early.Given as goal
 

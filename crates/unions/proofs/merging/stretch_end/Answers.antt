@@ -1,8 +1,7 @@
 -- `unions::merging::stretch_end` meets its contract. Assumes nothing.
 use Prim.Native.Nat.{ℕ, ◌≤◌, ◌<◌}
 use native.Mathlib.Omega.{arith}
-use lib.ListN.{length, get_or}
-use borrow.Author.Rules.{rules}
+use lib.ListN.{length}
 use Rattle.unions.proofs.EarlyPairs.{rising}
 use Rattle.unions.proofs.merging.stretch_end.Goals as goal
 

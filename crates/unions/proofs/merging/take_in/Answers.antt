@@ -6,7 +6,6 @@ use native.Mathlib.Nat.{min-le_left}
 use native.Mathlib.Omega.{arith}
 use lib.Pow.{pow_mono}
 use Rattle.unions.specs.Steps.{source_merged}
-use borrow.Author.Rules.{rules}
 use Rattle.unions.proofs.merging.take_in.Goals as goal
 
 pub merge_source-requires : goal.merge_source-requires

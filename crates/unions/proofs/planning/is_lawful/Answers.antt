@@ -4,7 +4,6 @@ use mathlib.Core.Bool.{Bool, not, ◌&&◌}
 use borrow.Author.Tests.{le-leb, lt-leb, not-true, not-false}
 use Rattle.matrices.specs.Calls.{lawful_union}
 use Rattle.matrices.specs.Matrix.{reserved}
-use borrow.Author.Rules.{rules}
 use Rattle.unions.proofs.planning.is_lawful.Goals as goal
 
 pub returns-then-present-lt4 : goal.returns-then-present-lt4

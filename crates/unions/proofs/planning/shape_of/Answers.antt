@@ -2,7 +2,6 @@
 use mathlib.Core.Path.{sym, ap, ◌∙◌}
 use Rattle.numbers.specs.Told.{told_number, told_flavor}
 use Rattle.unions.proofs.ShapeTold.{shape_refused, shape_given, flavor_never}
-use borrow.Author.Rules.{rules}
 use Rattle.unions.proofs.planning.shape_of.Goals as goal
 
 pub returns-in-Refused : goal.returns-in-Refused

@@ -5,7 +5,6 @@ use mathlib.Core.Path.{◌∙◌, sym, ap}
 use mathlib.Core.Bool.{Bool}
 use Prim.Native.Nat.{◌^◌}
 use Rattle.laws.specs.Choose.{choose}
-use borrow.Author.Rules.{rules}
 use Rattle.unions.proofs.planning.window_bytes.Goals as goal
 
 pub returns-then-wide : goal.returns-then-wide

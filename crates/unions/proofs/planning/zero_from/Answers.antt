@@ -1,10 +1,9 @@
 -- `unions::planning::zero_from` meets its contract. Assumes nothing.
-use borrow.Author.Rules.{rules}
 use mathlib.Core.Path.{◌≡◌, sym, ap, ◌∙◌}
 use mathlib.Core.Logic.{⊎_elim}
-use Prim.Native.Nat.{ℕ, ◌*◌, ◌-◌, ◌%◌, ◌^◌, ◌≤◌, ◌<◌}
+use Prim.Native.Nat.{ℕ, ◌*◌, ◌%◌, ◌^◌}
 use native.Mathlib.Omega.{arith}
-use lib.ListN.{length, get_or}
+use lib.ListN.{get_or}
 use Rattle.laws.proofs.Orders.{same_or_not}
 use Rattle.laws.proofs.Shifts.{one_shl}
 use Rattle.matrices.proofs.Lawful.{zero_passed, zero_failed}

@@ -1,13 +1,7 @@
 -- `unions::planning::zero_from`: what its loops keep true, and why they end. Assumes nothing.
-use borrow.Author.Rules.{rules}
-use mathlib.Core.Path.{◌≡◌, sym, ap, ◌∙◌}
-use mathlib.Core.Logic.{⊎_elim}
-use Prim.Native.Nat.{ℕ, ◌*◌, ◌-◌, ◌%◌, ◌^◌, ◌≤◌, ◌<◌}
-use native.Mathlib.Omega.{arith}
+use mathlib.Core.Path.{◌≡◌}
+use Prim.Native.Nat.{ℕ, ◌-◌, ◌^◌, ◌≤◌, ◌<◌}
 use lib.ListN.{length, get_or}
-use Rattle.laws.proofs.Orders.{same_or_not}
-use Rattle.laws.proofs.Shifts.{one_shl}
-use Rattle.matrices.proofs.Lawful.{zero_passed, zero_failed}
 use Rattle.unions.proofs.planning.zero_from.Given as goal
 
 abbrev pub invariant-loop-row : goal.invariant-loop-row

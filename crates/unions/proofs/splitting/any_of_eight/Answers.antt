@@ -1,10 +1,9 @@
 -- `unions::splitting::any_of_eight` meets its contract. Assumes nothing.
 use mathlib.Core.Path.{◌≡◌, subst}
-use Prim.Native.Nat.{ℕ, ◌+◌, ◌-◌, ◌≤◌}
+use Prim.Native.Nat.{ℕ, ◌+◌}
 use native.Mathlib.Omega.{arith}
 use Rattle.unions.specs.Steps.{QuietIf}
 use Rattle.unions.proofs.QuietRows.{quiet_none, quiet_row, quiet_both}
-use borrow.Author.Rules.{rules}
 use Rattle.unions.proofs.splitting.any_of_eight.Goals as goal
 
 pub loop-j-init : goal.loop-j-init

@@ -1,10 +1,6 @@
 -- `unions::splitting::any_of_eight`: what its loops keep true, and why they end. Assumes nothing.
-use mathlib.Core.Path.{◌≡◌, subst}
-use Prim.Native.Nat.{ℕ, ◌+◌, ◌-◌, ◌≤◌}
-use native.Mathlib.Omega.{arith}
+use Prim.Native.Nat.{◌+◌, ◌-◌, ◌≤◌}
 use Rattle.unions.specs.Steps.{QuietIf}
-use Rattle.unions.proofs.QuietRows.{quiet_none, quiet_row, quiet_both}
-use borrow.Author.Rules.{rules}
 use Rattle.unions.proofs.splitting.any_of_eight.Given as goal
 
 abbrev pub invariant-loop-j : goal.invariant-loop-j

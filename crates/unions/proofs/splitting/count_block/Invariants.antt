@@ -1,13 +1,8 @@
 -- `unions::splitting::count_block`: what its loops keep true, and why they end. Assumes nothing.
-use mathlib.Core.Path.{◌≡◌, sym, ap, ap₂, ◌∙◌, subst}
-use Prim.Native.Nat.{ℕ, ◌+◌, ◌-◌, ◌^◌, ◌≤◌, ◌<◌}
-use native.Mathlib.Omega.{arith}
-use lib.Count.{ones, ones-le}
-use lib.ListN.{length, get_or}
-use Rattle.matrices.proofs.FirstColumn.{surprise_lt}
+use mathlib.Core.Path.{◌≡◌}
+use Prim.Native.Nat.{◌-◌, ◌≤◌}
+use lib.ListN.{length}
 use Rattle.unions.specs.Steps.{pairs_from}
-use Rattle.unions.proofs.Blocks.{from_none, from_next, from_few}
-use borrow.Author.Rules.{rules}
 use Rattle.unions.proofs.splitting.count_block.Given as goal
 
 abbrev pub invariant-loop-j : goal.invariant-loop-j

@@ -1,11 +1,10 @@
 -- `unions::splitting::count_blocks` meets its contract. Assumes nothing.
 use mathlib.Core.Path.{◌≡◌, sym, ap, ap₂, ◌∙◌}
-use Prim.Native.Nat.{ℕ, ◌+◌, ◌-◌, ◌≤◌}
+use Prim.Native.Nat.{ℕ, ◌+◌}
 use native.Mathlib.Omega.{arith}
 use lib.ListN.{length, get_or, length-append}
 use Rattle.unions.specs.Steps.{pairs_from, block_pairs}
 use Rattle.unions.proofs.Blocks.{from_few, blocks_none, blocks_more, blocks_few}
-use borrow.Author.Rules.{rules}
 use Rattle.unions.proofs.splitting.count_blocks.Goals as goal
 
 pub loop-i-init : goal.loop-i-init

@@ -1,11 +1,8 @@
 -- `unions::splitting::count_blocks`: what its loops keep true, and why they end. Assumes nothing.
-use mathlib.Core.Path.{◌≡◌, sym, ap, ap₂, ◌∙◌}
-use Prim.Native.Nat.{ℕ, ◌+◌, ◌-◌, ◌≤◌}
-use native.Mathlib.Omega.{arith}
-use lib.ListN.{length, get_or, length-append}
-use Rattle.unions.specs.Steps.{pairs_from, block_pairs}
-use Rattle.unions.proofs.Blocks.{from_few, blocks_none, blocks_more, blocks_few}
-use borrow.Author.Rules.{rules}
+use mathlib.Core.Path.{◌≡◌}
+use Prim.Native.Nat.{◌-◌, ◌≤◌}
+use lib.ListN.{length}
+use Rattle.unions.specs.Steps.{block_pairs}
 use Rattle.unions.proofs.splitting.count_blocks.Given as goal
 
 abbrev pub invariant-loop-i : goal.invariant-loop-i

@@ -3,7 +3,6 @@ use mathlib.Core.Path.{refl, sym, ap₂, ◌∙◌}
 use Prim.Native.Nat.{ℕ}
 use lib.Bits.{bit_and, bit_xor}
 use Rattle.unions.proofs.Cutting.{cut_wide, cut_none}
-use borrow.Author.Rules.{rules}
 use Rattle.unions.proofs.splitting.cut_at.Goals as goal
 
 pub returns-then-wide : goal.returns-then-wide

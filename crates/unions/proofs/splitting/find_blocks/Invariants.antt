@@ -1,11 +1,8 @@
 -- `unions::splitting::find_blocks`: what its loops keep true, and why they end. Assumes nothing.
-use mathlib.Core.Path.{◌≡◌, sym, ◌∙◌, subst}
-use Prim.Native.Nat.{ℕ, ◌+◌, ◌-◌, ◌%◌, ◌≤◌, ◌<◌}
-use native.Mathlib.Omega.{arith}
-use lib.ListN.{length, set, length-set}
+use mathlib.Core.Path.{◌≡◌}
+use Prim.Native.Nat.{◌-◌, ◌%◌, ◌≤◌}
+use lib.ListN.{length}
 use Rattle.unions.specs.Steps.{Found}
-use Rattle.unions.proofs.Blocks.{found_start, found_turn}
-use borrow.Author.Rules.{rules}
 use Rattle.unions.proofs.splitting.find_blocks.Given as goal
 
 abbrev pub invariant-loop-r : goal.invariant-loop-r

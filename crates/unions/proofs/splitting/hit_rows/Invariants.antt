@@ -1,19 +1,13 @@
 -- `unions::splitting::hit_rows`: what its loops keep true, and why they end. Assumes nothing.
-use mathlib.Core.Path.{◌≡◌, sym, ap, ap₂, ◌∙◌}
+use mathlib.Core.Path.{◌≡◌}
 use mathlib.Core.Bool.{Bool, not}
 use mathlib.Core.List.{List}
-use Prim.Native.Nat.{ℕ, ◌+◌, ◌-◌, ◌*◌, ◌%◌, ◌^◌, ◌≤◌}
-use native.Mathlib.Nat.{mul-le-mul_right}
-use native.Mathlib.Omega.{arith}
+use Prim.Native.Nat.{ℕ, ◌+◌, ◌-◌, ◌≤◌}
 use lib.Dec.{eqb}
 use lib.ListN.{get_or}
-use lib.Pow.{pow_mono, shl_exact}
-use Rattle.laws.specs.Below.{one}
 use Rattle.laws.specs.Columns.{word_of}
-use Rattle.laws.proofs.Words.{word_of_zero, word_of_more, word_of_lt}
 use Rattle.matrices.specs.Parts.{surprise_word}
 use Rattle.unions.specs.declared.splitting.Cut.{Cut}
-use borrow.Author.Rules.{rules}
 use Rattle.unions.proofs.splitting.hit_rows.Given as goal
 
 -- row r + i holds a surprise

@@ -1,13 +1,8 @@
 -- `unions::splitting::list_blocks`: what its loops keep true, and why they end. Assumes nothing.
-use mathlib.Core.Path.{◌≡◌, sym, ap, ◌∙◌, subst}
-use mathlib.Core.List.{List}
-use Prim.Native.Nat.{ℕ, ◌+◌, ◌-◌, ◌≤◌}
-use native.Mathlib.Omega.{arith}
-use lib.ListN.{length, get_or, length-append}
-use Rattle.unions.specs.Steps.{Added, pairs_from, block_pairs}
-use Rattle.unions.proofs.Adding.{added_none, added_both}
-use Rattle.unions.proofs.Blocks.{blocks_none, blocks_more, blocks_most}
-use borrow.Author.Rules.{rules}
+use mathlib.Core.Path.{◌≡◌}
+use Prim.Native.Nat.{◌-◌, ◌≤◌}
+use lib.ListN.{length}
+use Rattle.unions.specs.Steps.{Added, block_pairs}
 use Rattle.unions.proofs.splitting.list_blocks.Given as goal
 
 abbrev pub invariant-loop-i : goal.invariant-loop-i

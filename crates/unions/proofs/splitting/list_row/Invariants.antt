@@ -1,15 +1,7 @@
 -- `unions::splitting::list_row`: what its loops keep true, and why they end. Assumes nothing.
-use borrow.Author.Rules.{rules}
-use mathlib.Core.Path.{◌≡◌, sym, subst}
-use Prim.Native.Nat.{ℕ, ◌+◌, ◌*◌, ◌-◌, ◌<◌}
-use native.Mathlib.Omega.{arith}
-use lib.Bits.{bit_xor}
-use lib.Count.{count_trailing_zeros}
-use lib.ListN.{length, set}
-use Rattle.laws.proofs.Shifts.{one_shl}
-use Rattle.laws.proofs.Trailing.{trailing_lt}
+use lib.ListN.{length}
 use Rattle.matrices.specs.Shapes.{row_pairs}
-use Rattle.matrices.proofs.ListTurn.{Listed, list_start, list_room, list_less, list_turn, list_end, list_length}
+use Rattle.matrices.proofs.ListTurn.{Listed}
 use Rattle.unions.proofs.splitting.list_row.Given as goal
 
 abbrev pub invariant-loop-rest : goal.invariant-loop-rest

@@ -1,11 +1,8 @@
 -- `unions::splitting::survey`: what its loops keep true, and why they end. Assumes nothing.
-use mathlib.Core.Path.{◌≡◌, refl, sym, ap, ap₂, ◌∙◌}
-use Prim.Native.Nat.{◌+◌, ◌-◌, ◌%◌, ◌≤◌}
-use native.Mathlib.Omega.{arith}
-use lib.ListN.{length, length-append}
-use Rattle.matrices.proofs.SplitTurn.{listed_to, to_none, to_all}
-use Rattle.unions.specs.Steps.{block_pairs}
-use Rattle.unions.proofs.Blocks.{from_few, listed_found}
+use mathlib.Core.Path.{◌≡◌}
+use Prim.Native.Nat.{◌-◌, ◌%◌, ◌≤◌}
+use lib.ListN.{length}
+use Rattle.matrices.proofs.SplitTurn.{listed_to}
 use Rattle.unions.proofs.splitting.survey.Given as goal
 
 abbrev pub invariant-loop-from : goal.invariant-loop-from

@@ -1,15 +1,9 @@
 -- `unions::splitting::write_pairs`: what its loops keep true, and why they end. Assumes nothing.
-use mathlib.Core.Path.{◌≡◌, refl, sym, ap, ◌∙◌, subst}
-use mathlib.Core.List.{List, [], ◌++◌}
-use Prim.Native.Nat.{ℕ, ◌-◌, ◌%◌, ◌≤◌}
-use native.Mathlib.Omega.{arith}
-use lib.Bits.{or_zero_l}
-use lib.Count.{count_trailing_zeros}
-use lib.ListN.{length, length-append}
-use Rattle.matrices.proofs.SplitTurn.{listed_to, to_none, to_all}
-use Rattle.unions.specs.Steps.{Added, block_pairs}
-use Rattle.unions.proofs.Adding.{added_none, added_both, columns_all}
-use Rattle.unions.proofs.Blocks.{listed_found, from_most}
+use mathlib.Core.Path.{◌≡◌}
+use Prim.Native.Nat.{◌-◌, ◌%◌, ◌≤◌}
+use lib.ListN.{length}
+use Rattle.matrices.proofs.SplitTurn.{listed_to}
+use Rattle.unions.specs.Steps.{Added}
 use Rattle.unions.proofs.splitting.write_pairs.Given as goal
 
 abbrev pub invariant-loop-from : goal.invariant-loop-from

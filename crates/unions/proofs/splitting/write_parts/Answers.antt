@@ -7,7 +7,6 @@ use native.Mathlib.Omega.{arith}
 use lib.ListN.{length, drop}
 use Rattle.matrices.specs.Parts.{surprise_pairs}
 use Rattle.unions.specs.Steps.{SurpriseSum}
-use borrow.Author.Rules.{rules}
 use Rattle.unions.proofs.splitting.write_parts.Goals as goal
 
 pub write_pairs-requires : goal.write_pairs-requires

@@ -3,7 +3,6 @@ use mathlib.Core.Path.{sym, ap, ◌∙◌}
 use mathlib.Core.Bool.{Bool}
 use Rattle.laws.specs.Choose.{choose}
 use Rattle.matrices.specs.Shapes.{windows}
-use borrow.Author.Rules.{rules}
 use Rattle.unions.proofs.splitting.write_windows_if_any.Goals as goal
 
 pub returns-then-shape : goal.returns-then-shape

@@ -1,5 +1,4 @@
 -- `unions::words::clear_window` meets its contract. Assumes nothing.
-use borrow.Author.Rules.{rules}
 use Rattle.laws.proofs.Columns.{has_and, has_not, has_low}
 use Rattle.matrices.proofs.Windows.{has_window}
 use Rattle.laws.specs.Columns.{has}

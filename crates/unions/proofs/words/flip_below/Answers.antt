@@ -1,5 +1,4 @@
 -- `unions::words::flip_below` meets its contract. Assumes nothing.
-use borrow.Author.Rules.{rules}
 use Rattle.laws.proofs.Columns.{has_xor, has_ones}
 use Rattle.laws.proofs.Shifts.{one_shl}
 use Rattle.laws.specs.Columns.{has, differs}

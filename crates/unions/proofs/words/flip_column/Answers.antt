@@ -1,5 +1,4 @@
 -- `unions::words::flip_column` meets its contract. Assumes nothing.
-use borrow.Author.Rules.{rules}
 use mathlib.Core.Path.{◌∙◌, ap}
 use Prim.Native.Nat.{◌^◌}
 use lib.Bits.{bit_xor, xor_lt}

@@ -1,5 +1,4 @@
 -- `unions::words::join` meets its contract. Assumes nothing.
-use borrow.Author.Rules.{rules}
 use mathlib.Core.Path.{◌∙◌}
 use Rattle.matrices.proofs.Parting.{joined_steps}
 use Rattle.unions.proofs.words.join.Goals as goal

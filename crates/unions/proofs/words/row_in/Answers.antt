@@ -7,7 +7,6 @@ use lib.Bits.{bit_and, and_mask}
 use lib.Pow.{pow_pos}
 use mathlib.Core.Path.{subst, sym}
 use Rattle.laws.proofs.Shifts.{one_shl}
-use borrow.Author.Rules.{rules}
 use Rattle.unions.proofs.words.row_in.Goals as goal
 
 pub overflow_sub-result : goal.overflow_sub-result

@@ -1,8 +1,7 @@
 -- `unions::words::window_of` meets its contract. Assumes nothing.
-use borrow.Author.Rules.{rules}
 use Rattle.laws.proofs.Columns.{has_shr}
 use mathlib.Core.Path.{◌∙◌}
-use Prim.Native.Nat.{◌^◌, ◌-◌}
+use Prim.Native.Nat.{◌^◌}
 use Rattle.laws.proofs.Words.{word_is}
 use lib.Pow.{pow_pos}
 use native.Mathlib.Nat.{mod-lt}

@@ -1,11 +1,10 @@
 -- `unions::words::with_column` meets its contract. Assumes nothing.
-use borrow.Author.Rules.{rules}
 use Rattle.laws.proofs.Columns.{has_or, has_one}
 use Rattle.laws.proofs.Shifts.{one_shl}
 use Rattle.laws.specs.Columns.{has}
 use mathlib.Core.Path.{◌∙◌, ap}
 use mathlib.Core.Bool.{Bool, ◌||◌}
-use Prim.Native.Nat.{ℕ, ◌^◌, ◌-◌}
+use Prim.Native.Nat.{ℕ, ◌^◌}
 use Rattle.laws.proofs.Words.{word_is}
 use lib.Bits.{bit_or, or_lt}
 use lib.Pow.{pow-lt}

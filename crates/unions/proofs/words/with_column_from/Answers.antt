@@ -1,5 +1,4 @@
 -- `unions::words::with_column_from` meets its contract. Assumes nothing.
-use borrow.Author.Rules.{rules}
 use mathlib.Core.Path.{◌≡◌, sym, ap, ◌∙◌}
 use mathlib.Core.Logic.{⊎_elim}
 use mathlib.Core.Bool.{Bool, false, ◌&&◌, ◌||◌}

@@ -1,10 +1,9 @@
 -- `unions::words::with_window` meets its contract. Assumes nothing.
-use borrow.Author.Rules.{rules}
 use Rattle.laws.proofs.Columns.{has_or, has_low, has_shl}
 use Rattle.laws.specs.Columns.{has}
 use mathlib.Core.Path.{◌∙◌, ap}
 use mathlib.Core.Bool.{Bool, ◌||◌}
-use Prim.Native.Nat.{◌*◌, ◌%◌, ◌^◌, ◌-◌}
+use Prim.Native.Nat.{◌*◌, ◌%◌, ◌^◌}
 use Rattle.laws.proofs.Words.{word_is}
 use lib.Bits.{or_lt}
 use lib.Pow.{pow_pos}
