@@ -10,7 +10,18 @@ use Rattle.books.specs.Told.{told_check}
 use Rattle.books.specs.Steps.{taken}
 use Rattle.books.proofs.Shaping.{all_shaped}
 use Rattle.books.proofs.Verdicts.{fit, fit_both, check_fit, first_refused, first_accepted, shaped_judged}
+use borrow.Author.Rules.{rules}
+use Rattle.books.proofs.check_table.Goals.{Else-not-right_lengths, In-Passes}
 use Rattle.books.proofs.check_table.Goals as goal
+
+fits : (c : Else-not-right_lengths) → fit c.args.book.now c.args.table.now ≡ true
+fits c = sym c.right_lengths.ensures ∙ not-false c.right_lengths.result c.if-not-right_lengths.false-raw
+
+-- past the shapes and the sum
+first : (c : In-Passes) → (first_misshapen c.args.book.now ≡ length c.args.book.now)
+    × (taken c.args.book.now ≡ 4096)
+first c = first_accepted c.args.book.now
+    (sym (ap told_check c.in-Passes.is) ∙ c.judge_shapes.ensures)
 
 pub returns-then-not-right_lengths : goal.returns-then-not-right_lengths
 returns-then-not-right_lengths c = let a = c.args in
@@ -19,12 +30,12 @@ returns-then-not-right_lengths c = let a = c.args in
 
 pub judge_shapes-requires : goal.judge_shapes-requires
 judge_shapes-requires c = let a = c.args in
-    (fit_both a.book.now a.table.now ((let fits : fit c.args.book.now c.args.table.now ≡ true = sym c.right_lengths.ensures ∙ not-false c.right_lengths.result c.if-not-right_lengths.false-raw in fits))).1
+    (fit_both a.book.now a.table.now (fits (goal.at.judge_shapes-requires c).Else-not-right_lengths)).1
 
 pub is_table-requires : goal.is_table-requires
 is_table-requires c = let a = c.args in
-    let f = (let first : (first_misshapen c.args.book.now ≡ length c.args.book.now) × (taken c.args.book.now ≡ 4096) = first_accepted c.args.book.now (sym (ap told_check c.in-Passes.is) ∙ c.judge_shapes.ensures) in first) in
-    let both = fit_both a.book.now a.table.now ((let fits : fit c.args.book.now c.args.table.now ≡ true = sym c.right_lengths.ensures ∙ not-false c.right_lengths.result c.if-not-right_lengths.false-raw in fits)) in
+    let f = first (goal.at.is_table-requires c).In-Passes in
+    let both = fit_both a.book.now a.table.now (fits (goal.at.is_table-requires c).Else-not-right_lengths) in
     (both.1, all_shaped a.book.now f.0, f.1, both.2)
 
 pub returns-in-Refused : goal.returns-in-Refused
@@ -34,12 +45,12 @@ returns-in-Refused c = let a = c.args in
     first_refused b (one_symbol_each b && is_table_of b t) c.in-Refused.why
     (and_left (one_symbol_each b) (is_table_of b t))
     (sym (ap told_check c.in-Refused.is) ∙ c.judge_shapes.ensures)
-    ∙ sym (check_fit b t true ((let fits : fit c.args.book.now c.args.table.now ≡ true = sym c.right_lengths.ensures ∙ not-false c.right_lengths.result c.if-not-right_lengths.false-raw in fits)))
+    ∙ sym (check_fit b t true (fits (goal.at.returns-in-Refused c).Else-not-right_lengths))
 
 pub returns-in-Passes : goal.returns-in-Passes
 returns-in-Passes c = let a = c.args in
     let b = a.book.now in
     let t = a.table.now in
     c.verdict.ensures
-    ∙ sym (check_fit b t true ((let fits : fit c.args.book.now c.args.table.now ≡ true = sym c.right_lengths.ensures ∙ not-false c.right_lengths.result c.if-not-right_lengths.false-raw in fits)) ∙ shaped_judged b (one_symbol_each b && is_table_of b t) c.is_table.result ((let first : (first_misshapen c.args.book.now ≡ length c.args.book.now) × (taken c.args.book.now ≡ 4096) = first_accepted c.args.book.now (sym (ap told_check c.in-Passes.is) ∙ c.judge_shapes.ensures) in first)).0
+    ∙ sym (check_fit b t true (fits (goal.at.returns-in-Passes c).Else-not-right_lengths) ∙ shaped_judged b (one_symbol_each b && is_table_of b t) c.is_table.result (first (goal.at.returns-in-Passes c).In-Passes).0
     (sym c.is_table.ensures))

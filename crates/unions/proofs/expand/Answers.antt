@@ -14,12 +14,25 @@ use Rattle.matrices.proofs.Judged.{judged_sorted, judged_row}
 use Rattle.unions.specs.Steps.{PlannedBy, ShapeOf}
 use Rattle.unions.proofs.Answered.{kept_as}
 use Rattle.unions.proofs.PlanSteps.{expand_chain}
+use borrow.Author.Rules.{rules}
+use Rattle.unions.proofs.expand.Goals.{After-judge_expansion, In-Take}
 use Rattle.unions.proofs.expand.Goals as goal
+
+judged : (c : After-judge_expansion) → PlannedBy ((expand_of c.args.lg c.args.coupons c.args.window.now c.args.pairs.now c.args.matrix.now)) c.args.lg c.args.coupons c.judge_expansion.result
+judged c = let a = c.args in
+    subst (λ (o : Outcome). PlannedBy o a.lg a.coupons c.judge_expansion.result) (expand_chain a.lg a.coupons a.window.now a.pairs.now a.matrix.now)
+    c.judge_expansion.ensures
+
+planned : (c : In-Take) → ((expand_of c.args.lg c.args.coupons c.args.window.now c.args.pairs.now c.args.matrix.now) ≡ accepted []) × ShapeOf c.args.lg c.args.coupons c.in-Take.shape
+planned c = subst (PlannedBy ((expand_of c.args.lg c.args.coupons c.args.window.now c.args.pairs.now c.args.matrix.now)) c.args.lg c.args.coupons) c.in-Take.is ((let judged : PlannedBy ((expand_of c.args.lg c.args.coupons c.args.window.now c.args.pairs.now c.args.matrix.now)) c.args.lg c.args.coupons c.judge_expansion.result = let a = c.args in subst (λ (o : Outcome). PlannedBy o a.lg a.coupons c.judge_expansion.result) (expand_chain a.lg a.coupons a.window.now a.pairs.now a.matrix.now) c.judge_expansion.ensures in judged))
+
+found : (c : In-Take) → Expanded c.args.lg c.args.coupons c.args.window.now c.args.pairs.now c.args.matrix.now
+found c = let a = c.args in expand_accepted a.lg a.coupons a.window.now a.pairs.now a.matrix.now [] (planned c).0
 
 pub fill-requires : goal.fill-requires
 fill-requires c = let a = c.args in
-    let p = ((let planned : ((expand_of c.args.lg c.args.coupons c.args.window.now c.args.pairs.now c.args.matrix.now) ≡ accepted []) × ShapeOf c.args.lg c.args.coupons c.in-Take.shape = subst (PlannedBy ((expand_of c.args.lg c.args.coupons c.args.window.now c.args.pairs.now c.args.matrix.now)) c.args.lg c.args.coupons) c.in-Take.is ((let judged : PlannedBy ((expand_of c.args.lg c.args.coupons c.args.window.now c.args.pairs.now c.args.matrix.now)) c.args.lg c.args.coupons c.judge_expansion.result = let a = c.args in subst (λ (o : Outcome). PlannedBy o a.lg a.coupons c.judge_expansion.result) (expand_chain a.lg a.coupons a.window.now a.pairs.now a.matrix.now) c.judge_expansion.ensures in judged)) in planned)).1 in
-    let f = (let found : Expanded c.args.lg c.args.coupons c.args.window.now c.args.pairs.now c.args.matrix.now = let a = c.args in expand_accepted a.lg a.coupons a.window.now a.pairs.now a.matrix.now [] ((let planned : ((expand_of c.args.lg c.args.coupons c.args.window.now c.args.pairs.now c.args.matrix.now) ≡ accepted []) × ShapeOf c.args.lg c.args.coupons c.in-Take.shape = subst (PlannedBy ((expand_of c.args.lg c.args.coupons c.args.window.now c.args.pairs.now c.args.matrix.now)) c.args.lg c.args.coupons) c.in-Take.is ((let judged : PlannedBy ((expand_of c.args.lg c.args.coupons c.args.window.now c.args.pairs.now c.args.matrix.now)) c.args.lg c.args.coupons c.judge_expansion.result = let a = c.args in subst (λ (o : Outcome). PlannedBy o a.lg a.coupons c.judge_expansion.result) (expand_chain a.lg a.coupons a.window.now a.pairs.now a.matrix.now) c.judge_expansion.ensures in judged)) in planned)).0 in found) in
+    let p = (planned (goal.at.fill-requires c).In-Take).1 in
+    let f = found (goal.at.fill-requires c).In-Take in
     record {
       small = p.small;
       long = f.bytes ∙ ap₂ (λ (b : Bool) (k : ℕ). choose b k 0) (sym p.wide) (sym f.rows);
@@ -29,14 +42,14 @@ fill-requires c = let a = c.args in
     }
 
 pub returns-in-Refused : goal.returns-in-Refused
-returns-in-Refused c = let e = subst (PlannedBy ((expand_of c.args.lg c.args.coupons c.args.window.now c.args.pairs.now c.args.matrix.now)) c.args.lg c.args.coupons) c.in-Refused.is ((let judged : PlannedBy ((expand_of c.args.lg c.args.coupons c.args.window.now c.args.pairs.now c.args.matrix.now)) c.args.lg c.args.coupons c.judge_expansion.result = let a = c.args in subst (λ (o : Outcome). PlannedBy o a.lg a.coupons c.judge_expansion.result) (expand_chain a.lg a.coupons a.window.now a.pairs.now a.matrix.now) c.judge_expansion.ensures in judged)) in
+returns-in-Refused c = let e = subst (PlannedBy ((expand_of c.args.lg c.args.coupons c.args.window.now c.args.pairs.now c.args.matrix.now)) c.args.lg c.args.coupons) c.in-Refused.is (judged (goal.at.returns-in-Refused c).After-judge_expansion) in
     (e, kept_as c.in-Refused.why _ c.args.matrix.now e)
 
 pub returns-in-Take : goal.returns-in-Take
 unfolding held
 returns-in-Take c = let a = c.args in
-    let p = (let planned : ((expand_of c.args.lg c.args.coupons c.args.window.now c.args.pairs.now c.args.matrix.now) ≡ accepted []) × ShapeOf c.args.lg c.args.coupons c.in-Take.shape = subst (PlannedBy ((expand_of c.args.lg c.args.coupons c.args.window.now c.args.pairs.now c.args.matrix.now)) c.args.lg c.args.coupons) c.in-Take.is ((let judged : PlannedBy ((expand_of c.args.lg c.args.coupons c.args.window.now c.args.pairs.now c.args.matrix.now)) c.args.lg c.args.coupons c.judge_expansion.result = let a = c.args in subst (λ (o : Outcome). PlannedBy o a.lg a.coupons c.judge_expansion.result) (expand_chain a.lg a.coupons a.window.now a.pairs.now a.matrix.now) c.judge_expansion.ensures in judged)) in planned) in
-    let f = (let found : Expanded c.args.lg c.args.coupons c.args.window.now c.args.pairs.now c.args.matrix.now = let a = c.args in expand_accepted a.lg a.coupons a.window.now a.pairs.now a.matrix.now [] ((let planned : ((expand_of c.args.lg c.args.coupons c.args.window.now c.args.pairs.now c.args.matrix.now) ≡ accepted []) × ShapeOf c.args.lg c.args.coupons c.in-Take.shape = subst (PlannedBy ((expand_of c.args.lg c.args.coupons c.args.window.now c.args.pairs.now c.args.matrix.now)) c.args.lg c.args.coupons) c.in-Take.is ((let judged : PlannedBy ((expand_of c.args.lg c.args.coupons c.args.window.now c.args.pairs.now c.args.matrix.now)) c.args.lg c.args.coupons c.judge_expansion.result = let a = c.args in subst (λ (o : Outcome). PlannedBy o a.lg a.coupons c.judge_expansion.result) (expand_chain a.lg a.coupons a.window.now a.pairs.now a.matrix.now) c.judge_expansion.ensures in judged)) in planned)).0 in found) in
+    let p = planned (goal.at.returns-in-Take c).In-Take in
+    let f = found (goal.at.returns-in-Take c).In-Take in
     let k = 2 ^ a.lg in
     let set = matrix_of k (held k a.coupons a.window.now a.pairs.now) in (
       sym p.0,

@@ -6,7 +6,7 @@ use Prim.Native.Nat.{◌^◌, ◌≤◌, min}
 use native.Mathlib.Omega.{arith}
 use lib.ListN.{length}
 use lib.Pow.{pow_mono}
-use Rattle.refusals.specs.Outcome.{accepted}
+use Rattle.refusals.specs.Outcome.{Outcome, accepted}
 use Rattle.matrices.specs.Calls.{merge_judged}
 use Rattle.matrices.specs.Source.{has_window}
 use Rattle.matrices.proofs.Answered.{Merged, merge_accepted, inside_most}
@@ -15,18 +15,30 @@ use Rattle.matrices.proofs.Lawful.{Lawful, lawful_is}
 use Rattle.unions.specs.Steps.{PlannedBy, ShapeOf, source_merged, lowered}
 use Rattle.unions.proofs.MergeTold.{merge_refused, merge_empty, merge_taken}
 use Rattle.unions.proofs.SourceTaken.{source_taken, window_short}
+use borrow.Author.Rules.{rules}
+use Rattle.unions.proofs.merge.Goals.{In-Take}
 use Rattle.unions.proofs.merge.Goals as goal
+
+planned : (c : In-Take) → ((merge_judged c.args.state.lg c.args.state.present c.args.state.seed c.args.matrix.now c.args.source.lg c.args.source.seed c.args.source.coupons c.args.window.now c.args.pairs.now) ≡ accepted []) × ShapeOf c.args.source.lg c.args.source.coupons c.in-Take.shape
+planned c = subst (PlannedBy ((merge_judged c.args.state.lg c.args.state.present c.args.state.seed c.args.matrix.now c.args.source.lg c.args.source.seed c.args.source.coupons c.args.window.now c.args.pairs.now)) c.args.source.lg c.args.source.coupons) c.in-Take.is c.judge_merge.ensures
+
+found : (c : In-Take) → Merged c.args.state.lg c.args.state.present c.args.state.seed c.args.matrix.now c.args.source.lg c.args.source.seed c.args.source.coupons c.args.window.now c.args.pairs.now
+found c = let a = c.args in
+    merge_accepted a.state.lg a.state.present a.state.seed a.matrix.now a.source.lg a.source.seed a.source.coupons a.window.now a.pairs.now [] (planned c).0
+
+lawful : (c : In-Take) → Lawful c.args.state.lg c.args.state.present c.args.matrix.now
+lawful c = let a = c.args in lawful_is a.state.lg a.state.present a.matrix.now (found c).lawful
 
 pub returns-then-source-eq0 : goal.returns-then-source-eq0
 returns-then-source-eq0 c = let a = c.args in
-    merge_empty a.state.lg a.state.present a.state.seed a.matrix.now a.source.lg a.source.seed a.source.coupons a.window.now a.pairs.now ((let planned : ((merge_judged c.args.state.lg c.args.state.present c.args.state.seed c.args.matrix.now c.args.source.lg c.args.source.seed c.args.source.coupons c.args.window.now c.args.pairs.now) ≡ accepted []) × ShapeOf c.args.source.lg c.args.source.coupons c.in-Take.shape = subst (PlannedBy ((merge_judged c.args.state.lg c.args.state.present c.args.state.seed c.args.matrix.now c.args.source.lg c.args.source.seed c.args.source.coupons c.args.window.now c.args.pairs.now)) c.args.source.lg c.args.source.coupons) c.in-Take.is c.judge_merge.ensures in planned)).0
+    merge_empty a.state.lg a.state.present a.state.seed a.matrix.now a.source.lg a.source.seed a.source.coupons a.window.now a.pairs.now (planned (goal.at.returns-then-source-eq0 c).In-Take).0
     c.if-source-eq0.true
 
 pub take_in-present-requires : goal.take_in-present-requires
 take_in-present-requires c = let a = c.args in
-    let f = (let found : Merged c.args.state.lg c.args.state.present c.args.state.seed c.args.matrix.now c.args.source.lg c.args.source.seed c.args.source.coupons c.args.window.now c.args.pairs.now = let a = c.args in merge_accepted a.state.lg a.state.present a.state.seed a.matrix.now a.source.lg a.source.seed a.source.coupons a.window.now a.pairs.now [] ((let planned : ((merge_judged c.args.state.lg c.args.state.present c.args.state.seed c.args.matrix.now c.args.source.lg c.args.source.seed c.args.source.coupons c.args.window.now c.args.pairs.now) ≡ accepted []) × ShapeOf c.args.source.lg c.args.source.coupons c.in-Take.shape = subst (PlannedBy ((merge_judged c.args.state.lg c.args.state.present c.args.state.seed c.args.matrix.now c.args.source.lg c.args.source.seed c.args.source.coupons c.args.window.now c.args.pairs.now)) c.args.source.lg c.args.source.coupons) c.in-Take.is c.judge_merge.ensures in planned)).0 in found) in
-    let u = (let lawful : Lawful c.args.state.lg c.args.state.present c.args.matrix.now = let a = c.args in lawful_is a.state.lg a.state.present a.matrix.now ((let found : Merged c.args.state.lg c.args.state.present c.args.state.seed c.args.matrix.now c.args.source.lg c.args.source.seed c.args.source.coupons c.args.window.now c.args.pairs.now = let a = c.args in merge_accepted a.state.lg a.state.present a.state.seed a.matrix.now a.source.lg a.source.seed a.source.coupons a.window.now a.pairs.now [] ((let planned : ((merge_judged c.args.state.lg c.args.state.present c.args.state.seed c.args.matrix.now c.args.source.lg c.args.source.seed c.args.source.coupons c.args.window.now c.args.pairs.now) ≡ accepted []) × ShapeOf c.args.source.lg c.args.source.coupons c.in-Take.shape = subst (PlannedBy ((merge_judged c.args.state.lg c.args.state.present c.args.state.seed c.args.matrix.now c.args.source.lg c.args.source.seed c.args.source.coupons c.args.window.now c.args.pairs.now)) c.args.source.lg c.args.source.coupons) c.in-Take.is c.judge_merge.ensures in planned)).0 in found)).lawful in lawful) in
-    let p = ((let planned : ((merge_judged c.args.state.lg c.args.state.present c.args.state.seed c.args.matrix.now c.args.source.lg c.args.source.seed c.args.source.coupons c.args.window.now c.args.pairs.now) ≡ accepted []) × ShapeOf c.args.source.lg c.args.source.coupons c.in-Take.shape = subst (PlannedBy ((merge_judged c.args.state.lg c.args.state.present c.args.state.seed c.args.matrix.now c.args.source.lg c.args.source.seed c.args.source.coupons c.args.window.now c.args.pairs.now)) c.args.source.lg c.args.source.coupons) c.in-Take.is c.judge_merge.ensures in planned)).1 in
+    let f = found (goal.at.take_in-present-requires c).In-Take in
+    let u = lawful (goal.at.take_in-present-requires c).In-Take in
+    let p = (planned (goal.at.take_in-present-requires c).In-Take).1 in
     let top : a.state.lg ≤ 26 = inside_most a.state.lg f.configured in
     let less : 2 ^ a.state.present ≤ 2 ^ a.state.lg = pow_mono u.most in
     let most : 2 ^ a.source.lg ≤ 2 ^ 26 = pow_mono p.high in (
@@ -45,12 +57,12 @@ returns-in-Refused c = let a = c.args in
 
 pub returns-else-source-eq0 : goal.returns-else-source-eq0
 returns-else-source-eq0 c = let a = c.args in
-    let f = (let found : Merged c.args.state.lg c.args.state.present c.args.state.seed c.args.matrix.now c.args.source.lg c.args.source.seed c.args.source.coupons c.args.window.now c.args.pairs.now = let a = c.args in merge_accepted a.state.lg a.state.present a.state.seed a.matrix.now a.source.lg a.source.seed a.source.coupons a.window.now a.pairs.now [] ((let planned : ((merge_judged c.args.state.lg c.args.state.present c.args.state.seed c.args.matrix.now c.args.source.lg c.args.source.seed c.args.source.coupons c.args.window.now c.args.pairs.now) ≡ accepted []) × ShapeOf c.args.source.lg c.args.source.coupons c.in-Take.shape = subst (PlannedBy ((merge_judged c.args.state.lg c.args.state.present c.args.state.seed c.args.matrix.now c.args.source.lg c.args.source.seed c.args.source.coupons c.args.window.now c.args.pairs.now)) c.args.source.lg c.args.source.coupons) c.in-Take.is c.judge_merge.ensures in planned)).0 in found) in
-    let p = (let planned : ((merge_judged c.args.state.lg c.args.state.present c.args.state.seed c.args.matrix.now c.args.source.lg c.args.source.seed c.args.source.coupons c.args.window.now c.args.pairs.now) ≡ accepted []) × ShapeOf c.args.source.lg c.args.source.coupons c.in-Take.shape = subst (PlannedBy ((merge_judged c.args.state.lg c.args.state.present c.args.state.seed c.args.matrix.now c.args.source.lg c.args.source.seed c.args.source.coupons c.args.window.now c.args.pairs.now)) c.args.source.lg c.args.source.coupons) c.in-Take.is c.judge_merge.ensures in planned) in
+    let f = found (goal.at.returns-else-source-eq0 c).In-Take in
+    let p = planned (goal.at.returns-else-source-eq0 c).In-Take in
     let shape = c.in-Take.shape in
     let k = min a.state.present a.source.lg in
     merge_taken a.state.lg a.state.present a.state.seed a.matrix.now a.source.lg a.source.seed a.source.coupons a.window.now a.pairs.now p.0
     c.if-source-eq0.false c.take_in-present.result c.take_in-present.new.matrix c.take_in-present.ensures.0
     (c.take_in-present.ensures.1
     ∙ ap (λ (b : Bool). source_merged k b shape.offset (lowered a.state.present a.source.lg a.matrix.now) a.window.now a.pairs.now) p.1.wide
-    ∙ source_taken a.source.lg a.source.coupons a.window.now a.pairs.now shape.offset p.1.offset f.source.pairs f.bytes a.state.present a.matrix.now ((let lawful : Lawful c.args.state.lg c.args.state.present c.args.matrix.now = let a = c.args in lawful_is a.state.lg a.state.present a.matrix.now ((let found : Merged c.args.state.lg c.args.state.present c.args.state.seed c.args.matrix.now c.args.source.lg c.args.source.seed c.args.source.coupons c.args.window.now c.args.pairs.now = let a = c.args in merge_accepted a.state.lg a.state.present a.state.seed a.matrix.now a.source.lg a.source.seed a.source.coupons a.window.now a.pairs.now [] ((let planned : ((merge_judged c.args.state.lg c.args.state.present c.args.state.seed c.args.matrix.now c.args.source.lg c.args.source.seed c.args.source.coupons c.args.window.now c.args.pairs.now) ≡ accepted []) × ShapeOf c.args.source.lg c.args.source.coupons c.in-Take.shape = subst (PlannedBy ((merge_judged c.args.state.lg c.args.state.present c.args.state.seed c.args.matrix.now c.args.source.lg c.args.source.seed c.args.source.coupons c.args.window.now c.args.pairs.now)) c.args.source.lg c.args.source.coupons) c.in-Take.is c.judge_merge.ensures in planned)).0 in found)).lawful in lawful)).rest)
+    ∙ source_taken a.source.lg a.source.coupons a.window.now a.pairs.now shape.offset p.1.offset f.source.pairs f.bytes a.state.present a.matrix.now (lawful (goal.at.returns-else-source-eq0 c).In-Take).rest)

@@ -8,22 +8,30 @@ use lib.Pow.{pow_mono}
 use Rattle.laws.proofs.Shifts.{one_shl}
 use Rattle.books.specs.Steps.{Marked}
 use Rattle.books.proofs.Marking.{mark_short, mark_long}
+use borrow.Author.Rules.{rules}
+use Rattle.books.proofs.marks.mark.Goals.{Else-len-lt7}
 use Rattle.books.proofs.marks.mark.Goals as goal
+
+at_is : (c : Else-len-lt7) → 1 * 2 ^ c.args.len % 2 ^ 64 ≡ 2 ^ c.args.len
+at_is c = one_shl c.args.len (omega arith)
+
+at_most : (c : Else-len-lt7) → 2 ^ c.args.len ≤ 4096
+at_most c = pow_mono {i = c.args.len} {j = 12} c.requires.1
 
 pub returns-then-len-lt7 : goal.returns-then-len-lt7
 returns-then-len-lt7 c = mark_short c.args.marks.now c.args.len c.args.codeword c.pattern.result (omega arith) (omega arith) c.pattern.ensures
 
 pub overflow_add-at : goal.overflow_add-at
-overflow_add-at c = omega (arith, (let at_is : 1 * 2 ^ c.args.len % 2 ^ 64 ≡ 2 ^ c.args.len = one_shl c.args.len (omega arith) in at_is), (let at_most : 2 ^ c.args.len ≤ 4096 = pow_mono {i = c.args.len} {j = 12} c.requires.1 in at_most))
+overflow_add-at c = omega (arith, at_is (goal.at.overflow_add-at c).Else-len-lt7, at_most (goal.at.overflow_add-at c).Else-len-lt7)
 
 pub bounds-marks-at : goal.bounds-marks-at
-bounds-marks-at c = omega (arith, (let at_is : 1 * 2 ^ c.args.len % 2 ^ 64 ≡ 2 ^ c.args.len = one_shl c.args.len (omega arith) in at_is), (let at_most : 2 ^ c.args.len ≤ 4096 = pow_mono {i = c.args.len} {j = 12} c.requires.1 in at_most))
+bounds-marks-at c = omega (arith, at_is (goal.at.bounds-marks-at c).Else-len-lt7, at_most (goal.at.bounds-marks-at c).Else-len-lt7)
 
 pub bounds-marks-at-2 : goal.bounds-marks-at-2
-bounds-marks-at-2 c = omega (arith, (let at_is : 1 * 2 ^ c.args.len % 2 ^ 64 ≡ 2 ^ c.args.len = one_shl c.args.len (omega arith) in at_is), (let at_most : 2 ^ c.args.len ≤ 4096 = pow_mono {i = c.args.len} {j = 12} c.requires.1 in at_most))
+bounds-marks-at-2 c = omega (arith, at_is (goal.at.bounds-marks-at-2 c).Else-len-lt7, at_most (goal.at.bounds-marks-at-2 c).Else-len-lt7)
 
 pub returns : goal.returns
 returns c = let m = c.args.marks.now in
     let at : ℕ = 1 * 2 ^ c.args.len % 2 ^ 64 + c.args.codeword in
     subst (λ (b : ℕ). Marked m (set m (at / 64) (bit_or (get_or m (at / 64) 0) b)) c.args.len c.args.codeword) (sym (one_shl (at % 64) (omega arith)))
-    (mark_long m c.args.len c.args.codeword at (ap (λ (p : ℕ). p + c.args.codeword) ((let at_is : 1 * 2 ^ c.args.len % 2 ^ 64 ≡ 2 ^ c.args.len = one_shl c.args.len (omega arith) in at_is))) c.requires.0 (omega arith) c.requires.1 c.requires.2)
+    (mark_long m c.args.len c.args.codeword at (ap (λ (p : ℕ). p + c.args.codeword) (at_is (goal.at.returns c).Else-len-lt7)) c.requires.0 (omega arith) c.requires.1 c.requires.2)

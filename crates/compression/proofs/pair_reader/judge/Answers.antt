@@ -2,10 +2,17 @@
 use mathlib.Core.Path.{◌≡◌, refl, ap, ◌∙◌}
 use Prim.Native.Nat.{ℕ, ◌+◌}
 use native.Mathlib.Omega.{arith}
+use borrow.Author.Rules.{rules}
 use Rattle.streams.specs.Read.{pair}
 use Rattle.streams.specs.Written.{predicted}
 use Rattle.compression.proofs.ReadingSteps.{judged_7, judged_8, judged_9, judged_10, judged_pair}
+use Rattle.compression.proofs.pair_reader.judge.Goals.{After-predict}
 use Rattle.compression.proofs.pair_reader.judge.Goals as goal
+
+-- the column, as the definition has it
+column_at : (c : After-predict) → c.predict.result + c.args.across
+    ≡ predicted c.args.down c.args.state.column + c.args.across
+column_at c = ap (λ (x : ℕ). x + c.args.across) c.predict.ensures.0
 
 pub returns-then-down-ge4294967296 : goal.returns-then-down-ge4294967296
 returns-then-down-ge4294967296 c = let a = c.args in
@@ -18,13 +25,13 @@ returns-then-k-row c = let a = c.args in
 
 pub returns-then-column-ge64 : goal.returns-then-column-ge64
 returns-then-column-ge64 c = let a = c.args in
-    let is = judged_9 a.k a.state.row a.state.column a.across a.down a.bit _ ((let column_at : c.predict.result + c.args.across ≡ predicted c.args.down c.args.state.column + c.args.across = ap (λ (x : ℕ). x + c.args.across) c.predict.ensures.0 in column_at)) (omega arith) (omega arith) (omega arith) in
+    let is = judged_9 a.k a.state.row a.state.column a.across a.down a.bit _ (column_at (goal.at.returns-then-column-ge64 c).After-predict) (omega arith) (omega arith) (omega arith) in
     (record { number = 9; bit = a.bit; is = is; told_as = refl }, tt)
 
 pub returns-then-pair-eq4294967295 : goal.returns-then-pair-eq4294967295
 returns-then-pair-eq4294967295 c = let a = c.args in
     let is =
-    judged_10 a.k a.state.row a.state.column a.across a.down a.bit _ ((let column_at : c.predict.result + c.args.across ≡ predicted c.args.down c.args.state.column + c.args.across = ap (λ (x : ℕ). x + c.args.across) c.predict.ensures.0 in column_at)) (omega arith) (omega arith) (omega arith) (omega arith) in
+    judged_10 a.k a.state.row a.state.column a.across a.down a.bit _ (column_at (goal.at.returns-then-pair-eq4294967295 c).After-predict) (omega arith) (omega arith) (omega arith) (omega arith) in
     (record { number = 10; bit = a.bit; is = is; told_as = refl }, tt)
 
 pub returns : goal.returns
@@ -33,7 +40,7 @@ returns c = let a = c.args in
       record {
         column = column;
         is =
-            judged_pair a.k a.state.row a.state.column a.across a.down a.bit column ((let column_at : c.predict.result + c.args.across ≡ predicted c.args.down c.args.state.column + c.args.across = ap (λ (x : ℕ). x + c.args.across) c.predict.ensures.0 in column_at)) (omega arith) (omega arith) (omega arith)
+            judged_pair a.k a.state.row a.state.column a.across a.down a.bit column (column_at (goal.at.returns c).After-predict) (omega arith) (omega arith) (omega arith)
             c.if-pair-eq4294967295.false
             ∙ ap (pair (a.state.row + a.down) column) c.requires.4;
         item_is = refl;

@@ -2,21 +2,29 @@
 use mathlib.Core.Path.{◌≡◌, refl, ap, ◌∙◌, subst}
 use Prim.Native.Nat.{ℕ, ◌+◌, ◌/◌, ◌%◌}
 use native.Mathlib.Omega.{arith}
+use borrow.Author.Rules.{rules}
 use lib.ListN.{get_or}
 use Rattle.streams.specs.Stream.{number, word_bits}
 use Rattle.compression.specs.Reading.{place_of, SeenBy}
 use Rattle.compression.specs.declared.reader.Seen.TheVariants.{Bits}
 use Rattle.compression.proofs.LookingFields.{code_cut, code_found}
+use Rattle.compression.proofs.reader.take_code.Goals.{In-Bits}
 use Rattle.compression.proofs.reader.take_code.Goals as goal
 
+-- where the look succeeded
+sees : (c : In-Bits) → SeenBy c.args.stream.now c.args.cursor 12
+    (Bits c.in-Bits.bits c.in-Bits.full)
+sees c = subst (SeenBy c.args.stream.now c.args.cursor 12) c.in-Bits.is
+    c.look.ensures
+
 pub offset_bounds-table-i : goal.offset_bounds-table-i
-offset_bounds-table-i c = let h = (let sees : SeenBy c.args.stream.now c.args.cursor 12 (Bits c.in-Bits.bits c.in-Bits.full) = subst (SeenBy c.args.stream.now c.args.cursor 12) c.in-Bits.is c.look.ensures in sees) in omega arith
+offset_bounds-table-i c = let h = sees (goal.at.offset_bounds-table-i c).In-Bits in omega arith
 
 pub bounds-table-i : goal.bounds-table-i
-bounds-table-i c = let h = (let sees : SeenBy c.args.stream.now c.args.cursor 12 (Bits c.in-Bits.bits c.in-Bits.full) = subst (SeenBy c.args.stream.now c.args.cursor 12) c.in-Bits.is c.look.ensures in sees) in omega arith
+bounds-table-i c = let h = sees (goal.at.bounds-table-i c).In-Bits in omega arith
 
 pub skip-requires : goal.skip-requires
-skip-requires c = let h = (let sees : SeenBy c.args.stream.now c.args.cursor 12 (Bits c.in-Bits.bits c.in-Bits.full) = subst (SeenBy c.args.stream.now c.args.cursor 12) c.in-Bits.is c.look.ensures in sees) in
+skip-requires c = let h = sees (goal.at.skip-requires c).In-Bits in
     let l = c.requires.2.lengths c.index-i.result (omega arith) in
     (omega arith, omega arith)
 
@@ -29,7 +37,7 @@ returns-in-Ends c = let a = c.args in
 pub returns-in-Bits : goal.returns-in-Bits
 returns-in-Bits c = let a = c.args in
     let s = a.stream.now in
-    let h = (let sees : SeenBy c.args.stream.now c.args.cursor 12 (Bits c.in-Bits.bits c.in-Bits.full) = subst (SeenBy c.args.stream.now c.args.cursor 12) c.in-Bits.is c.look.ensures in sees) in
+    let h = sees (goal.at.returns-in-Bits c).In-Bits in
     let t = a.table.now in
     let x = c.in-Bits.bits in
     let entry = c.wide_entry-entry.result in

@@ -1,11 +1,16 @@
 -- `numbers::formulas::floor_log2` meets its contract. Assumes nothing.
 use mathlib.Core.Path.{◌≡◌}
-use Prim.Native.Nat.{suc}
+use Prim.Native.Nat.{suc, ◌-◌}
 use native.Mathlib.Omega.{arith}
 use lib.Pow.{pow_pos}
 use Rattle.numbers.specs.Numbers.{floor_log2}
-use Rattle.numbers.proofs.Logs.{doubled_start, doubled_turn, doubled_most, doubled_met, doubled_past, log_most}
+use Rattle.numbers.proofs.Logs.{Doubled, doubled_start, doubled_turn, doubled_most, doubled_met, doubled_past, log_most}
+use Rattle.numbers.proofs.formulas.floor_log2.Goals.{Else-power-quotient}
 use Rattle.numbers.proofs.formulas.floor_log2.Goals as goal
+
+-- where the power is not the quotient it is past it
+past : (c : Else-power-quotient) → c.loop-power.bits ≡ suc (floor_log2 c.args.quotient)
+past c = doubled_past _ c.loop-power.invariant c.requires.1 (omega arith)
 
 pub loop-power-init : goal.loop-power-init
 loop-power-init c = doubled_start _ c.requires.0
@@ -27,7 +32,7 @@ returns-then-power-quotient c = let e = doubled_met c.loop-power.invariant c.req
     (e, omega (arith, log_most c.args.quotient))
 
 pub overflow_sub-result : goal.overflow_sub-result
-overflow_sub-result c = omega (arith, (let past : c.loop-power.bits ≡ suc (floor_log2 c.args.quotient) = doubled_past _ c.loop-power.invariant c.requires.1 (omega arith) in past))
+overflow_sub-result c = omega (arith, past (goal.at.overflow_sub-result c).Else-power-quotient)
 
 pub returns : goal.returns
-returns c = omega (arith, (let past : c.loop-power.bits ≡ suc (floor_log2 c.args.quotient) = doubled_past _ c.loop-power.invariant c.requires.1 (omega arith) in past), log_most c.args.quotient)
+returns c = omega (arith, past (goal.at.returns c).Else-power-quotient, log_most c.args.quotient)

@@ -1,14 +1,20 @@
 -- `unions::filling::flip_pairs` meets its contract. Assumes nothing.
+use borrow.Author.Rules.{rules}
 use mathlib.Core.Path.{◌≡◌, ap, ◌∙◌}
 use mathlib.Core.List.{List}
-use Prim.Native.Nat.{ℕ, ◌/◌, ◌%◌, ◌<◌}
+use Prim.Native.Nat.{ℕ, ◌-◌, ◌/◌, ◌%◌, ◌≤◌, ◌<◌}
 use native.Mathlib.Omega.{arith}
 use lib.Dec.{eqb}
 use lib.ListN.{length, get_or, set, length-set}
 use Rattle.laws.specs.Columns.{word_of, differs}
 use Rattle.matrices.specs.Matrix.{at, matrix_of}
 use Rattle.unions.proofs.Flips.{flipped_to, flip_start, flip_turn, flip_end}
+use Rattle.unions.proofs.filling.flip_pairs.Goals.{After-shared_slice_known-in-loop-i-1}
 use Rattle.unions.proofs.filling.flip_pairs.Goals as goal
+
+-- the row of the pair
+low : (c : After-shared_slice_known-in-loop-i-1) → get_or c.args.pairs.now c.loop-i.i 0 / 64 < length c.args.matrix.now
+low c = c.requires.1.row c.loop-i.i (omega (arith, c.loop-i-test))
 
 pub loop-i-init : goal.loop-i-init
 loop-i-init c = let a = c.args in
@@ -18,16 +24,16 @@ pub overflow_cast-row : goal.overflow_cast-row
 overflow_cast-row c = omega (arith, c.shared_slice_known-in-loop-i-1.given c.loop-i.i)
 
 pub offset_bounds-matrix-row : goal.offset_bounds-matrix-row
-offset_bounds-matrix-row c = omega (arith, (let low : get_or c.args.pairs.now c.loop-i.i 0 / 64 < length c.args.matrix.now = c.requires.1.row c.loop-i.i (omega (arith, c.loop-i-test)) in low), c.loop-i.invariant.1, c.well_formed)
+offset_bounds-matrix-row c = omega (arith, low (goal.at.offset_bounds-matrix-row c).After-shared_slice_known-in-loop-i-1, c.loop-i.invariant.1, c.well_formed)
 
 pub bounds-matrix-row : goal.bounds-matrix-row
-bounds-matrix-row c = omega (arith, (let low : get_or c.args.pairs.now c.loop-i.i 0 / 64 < length c.args.matrix.now = c.requires.1.row c.loop-i.i (omega (arith, c.loop-i-test)) in low), c.loop-i.invariant.1)
+bounds-matrix-row c = omega (arith, low (goal.at.bounds-matrix-row c).After-shared_slice_known-in-loop-i-1, c.loop-i.invariant.1)
 
 pub offset_bounds-matrix-row-in-loop-i : goal.offset_bounds-matrix-row-in-loop-i
-offset_bounds-matrix-row-in-loop-i c = omega (arith, (let low : get_or c.args.pairs.now c.loop-i.i 0 / 64 < length c.args.matrix.now = c.requires.1.row c.loop-i.i (omega (arith, c.loop-i-test)) in low), c.loop-i.invariant.1, c.well_formed)
+offset_bounds-matrix-row-in-loop-i c = omega (arith, low (goal.at.offset_bounds-matrix-row-in-loop-i c).After-shared_slice_known-in-loop-i-1, c.loop-i.invariant.1, c.well_formed)
 
 pub bounds-matrix-row-in-loop-i : goal.bounds-matrix-row-in-loop-i
-bounds-matrix-row-in-loop-i c = omega (arith, (let low : get_or c.args.pairs.now c.loop-i.i 0 / 64 < length c.args.matrix.now = c.requires.1.row c.loop-i.i (omega (arith, c.loop-i-test)) in low), c.loop-i.invariant.1)
+bounds-matrix-row-in-loop-i c = omega (arith, low (goal.at.bounds-matrix-row-in-loop-i c).After-shared_slice_known-in-loop-i-1, c.loop-i.invariant.1)
 
 pub loop-i-preserved : goal.loop-i-preserved
 loop-i-preserved c = let l = c.loop-i in
@@ -39,7 +45,7 @@ loop-i-preserved c = let l = c.loop-i in
       simp length-set l.invariant.1,
       ap (set l.matrix (x / 64)) c.flip_column.ensures
           ∙ ap (λ (y : List ℕ). set y (x / 64) (word_of 64 (λ d. differs (at y (x / 64) d) (eqb d (x % 64))))) l.invariant.2
-          ∙ flip_turn m ps l.i c.requires.0 h ((let low : get_or c.args.pairs.now c.loop-i.i 0 / 64 < length c.args.matrix.now = c.requires.1.row c.loop-i.i (omega (arith, c.loop-i-test)) in low)),
+          ∙ flip_turn m ps l.i c.requires.0 h (low (goal.at.loop-i-preserved c).After-shared_slice_known-in-loop-i-1),
     )
 
 pub shape_of-matrix : goal.shape_of-matrix

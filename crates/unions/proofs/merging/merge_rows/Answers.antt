@@ -2,7 +2,7 @@
 use mathlib.Core.Path.{◌≡◌, sym, ◌∙◌, ap}
 use mathlib.Core.Bool.{Bool, ◌||◌}
 use mathlib.Core.List.{List}
-use Prim.Native.Nat.{ℕ, ◌%◌, ◌^◌, ◌≤◌, ◌<◌}
+use Prim.Native.Nat.{ℕ, ◌-◌, ◌%◌, ◌^◌, ◌≤◌, ◌<◌}
 use native.Mathlib.Omega.{arith}
 use lib.ListN.{length, set}
 use lib.Pow.{pow_pos}
@@ -12,7 +12,22 @@ use Rattle.matrices.specs.Shapes.{merged}
 use Rattle.matrices.proofs.Merging.{merge_start, merge_turn}
 use Rattle.unions.specs.Steps.{early_set, EarlyFrom}
 use Rattle.unions.proofs.EarlyPairs.{join_early, early_first, early_none, early_reach, early_rows}
+use Rattle.unions.proofs.merging.merge_rows.Goals.{After-stretch_end-stop}
 use Rattle.unions.proofs.merging.merge_rows.Goals as goal
+
+least : (c : After-stretch_end-stop) → c.loop-r.r ≤ c.stretch_end-stop.result
+least c = let a = c.args in
+    let l = c.loop-r in
+    c.stretch_end-stop.ensures.least l.r c.last_row.ensures.0
+    (early_none a.offset a.pairs.now l.start ((c.next_early-next.result)) l.r l.invariant.2 c.next_early-next.ensures c.requires.4)
+
+below : (c : After-stretch_end-stop) → c.stretch_end-stop.result < length c.args.window.now
+below c = omega (arith, c.stretch_end-stop.ensures.most, c.last_row.ensures.1)
+
+reached : (c : After-stretch_end-stop) → EarlyFrom c.args.offset c.args.pairs.now ((c.next_early-next.result)) c.stretch_end-stop.result
+reached c = let a = c.args in
+    let l = c.loop-r in
+    early_reach a.offset a.pairs.now l.start ((c.next_early-next.result)) l.r l.invariant.2 c.next_early-next.ensures c.stretch_end-stop.result (least c) c.stretch_end-stop.ensures.before
 
 pub loop-r-init : goal.loop-r-init
 loop-r-init c = let a = c.args in (
@@ -35,18 +50,18 @@ pub merge_stretch-requires : goal.merge_stretch-requires
 merge_stretch-requires c = (
   c.requires.0,
   omega (arith, c.requires.1, c.loop-r.invariant.1),
-  (let least : c.loop-r.r ≤ c.stretch_end-stop.result = let a = c.args in let l = c.loop-r in c.stretch_end-stop.ensures.least l.r c.last_row.ensures.0 (early_none a.offset a.pairs.now l.start ((c.next_early-next.result)) l.r l.invariant.2 c.next_early-next.ensures c.requires.4) in least),
-  omega (arith, (let below : c.stretch_end-stop.result < length c.args.window.now = omega (arith, c.stretch_end-stop.ensures.most, c.last_row.ensures.1) in below)),
-  omega (arith, (let below : c.stretch_end-stop.result < length c.args.window.now = omega (arith, c.stretch_end-stop.ensures.most, c.last_row.ensures.1) in below), c.requires.2),
-  omega (arith, c.last_row.ensures.2, c.stretch_end-stop.ensures.most, (let least : c.loop-r.r ≤ c.stretch_end-stop.result = let a = c.args in let l = c.loop-r in c.stretch_end-stop.ensures.least l.r c.last_row.ensures.0 (early_none a.offset a.pairs.now l.start ((c.next_early-next.result)) l.r l.invariant.2 c.next_early-next.ensures c.requires.4) in least)),
+  least (goal.at.merge_stretch-requires c).After-stretch_end-stop,
+  omega (arith, below (goal.at.merge_stretch-requires c).After-stretch_end-stop),
+  omega (arith, below (goal.at.merge_stretch-requires c).After-stretch_end-stop, c.requires.2),
+  omega (arith, c.last_row.ensures.2, c.stretch_end-stop.ensures.most, least (goal.at.merge_stretch-requires c).After-stretch_end-stop),
   c.requires.3,
 )
 
 pub early_pairs-row-requires : goal.early_pairs-row-requires
-early_pairs-row-requires c = (omega (arith, (let below : c.stretch_end-stop.result < length c.args.window.now = omega (arith, c.stretch_end-stop.ensures.most, c.last_row.ensures.1) in below), c.requires.2), c.requires.3, c.requires.4, c.stretch_end-stop.ensures.before, (let reached : EarlyFrom c.args.offset c.args.pairs.now ((c.next_early-next.result)) c.stretch_end-stop.result = let a = c.args in let l = c.loop-r in early_reach a.offset a.pairs.now l.start ((c.next_early-next.result)) l.r l.invariant.2 c.next_early-next.ensures c.stretch_end-stop.result ((let least : c.loop-r.r ≤ c.stretch_end-stop.result = let a = c.args in let l = c.loop-r in c.stretch_end-stop.ensures.least l.r c.last_row.ensures.0 (early_none a.offset a.pairs.now l.start ((c.next_early-next.result)) l.r l.invariant.2 c.next_early-next.ensures c.requires.4) in least)) c.stretch_end-stop.ensures.before in reached))
+early_pairs-row-requires c = (omega (arith, below (goal.at.early_pairs-row-requires c).After-stretch_end-stop, c.requires.2), c.requires.3, c.requires.4, c.stretch_end-stop.ensures.before, reached (goal.at.early_pairs-row-requires c).After-stretch_end-stop)
 
 pub bounds-window-stop : goal.bounds-window-stop
-bounds-window-stop c = (let below : c.stretch_end-stop.result < length c.args.window.now = omega (arith, c.stretch_end-stop.ensures.most, c.last_row.ensures.1) in below)
+bounds-window-stop c = below (goal.at.bounds-window-stop c).After-stretch_end-stop
 
 pub join-requires : goal.join-requires
 join-requires c = c.requires.3
@@ -55,10 +70,10 @@ pub merge_row-requires : goal.merge_row-requires
 merge_row-requires c = (c.requires.0, omega (arith, c.requires.1, c.merge_stretch.auto.matrix, c.loop-r.invariant.1))
 
 pub overflow_add-r : goal.overflow_add-r
-overflow_add-r c = omega (arith, (let below : c.stretch_end-stop.result < length c.args.window.now = omega (arith, c.stretch_end-stop.ensures.most, c.last_row.ensures.1) in below), c.requires.2)
+overflow_add-r c = omega (arith, below (goal.at.overflow_add-r c).After-stretch_end-stop, c.requires.2)
 
 pub loop-r-smaller : goal.loop-r-smaller
-loop-r-smaller c = omega (arith, (let below : c.stretch_end-stop.result < length c.args.window.now = omega (arith, c.stretch_end-stop.ensures.most, c.last_row.ensures.1) in below), (let least : c.loop-r.r ≤ c.stretch_end-stop.result = let a = c.args in let l = c.loop-r in c.stretch_end-stop.ensures.least l.r c.last_row.ensures.0 (early_none a.offset a.pairs.now l.start ((c.next_early-next.result)) l.r l.invariant.2 c.next_early-next.ensures c.requires.4) in least))
+loop-r-smaller c = omega (arith, below (goal.at.loop-r-smaller c).After-stretch_end-stop, least (goal.at.loop-r-smaller c).After-stretch_end-stop)
 
 pub loop-r-preserved : goal.loop-r-preserved
 loop-r-preserved c = let l = c.loop-r in
@@ -72,7 +87,7 @@ loop-r-preserved c = let l = c.loop-r in
     let stretched : c.merge_stretch.new.matrix ≡ matrix_of (length m) (merged k stop m src) =
     c.merge_stretch.ensures.rows m src
     (early_rows a.offset ps l.start ((c.next_early-next.result)) l.r l.invariant.2 c.next_early-next.ensures a.window.now stop c.stretch_end-stop.ensures.before) (sym l.invariant.1) l.invariant.3 in (
-      omega (arith, (let below : c.stretch_end-stop.result < length c.args.window.now = omega (arith, c.stretch_end-stop.ensures.most, c.last_row.ensures.1) in below)),
+      omega (arith, below (goal.at.loop-r-preserved c).After-stretch_end-stop),
       c.merge_row.auto.matrix ∙ c.merge_stretch.auto.matrix ∙ l.invariant.1,
       c.early_pairs-row.ensures.1,
       c.merge_row.ensures

@@ -1,4 +1,5 @@
 -- `unions::merging::merge_stretch` meets its contract. Assumes nothing.
+use borrow.Author.Rules.{rules}
 use mathlib.Core.Path.{◌≡◌, sym, ap, ◌∙◌, subst}
 use mathlib.Core.Bool.{◌||◌}
 use mathlib.Core.List.{List}
@@ -10,7 +11,15 @@ use Rattle.laws.specs.Columns.{has, word_of}
 use Rattle.matrices.specs.Matrix.{at}
 use Rattle.unions.specs.Steps.{Stretched}
 use Rattle.unions.proofs.Stretches.{falls_next, stretch_start, stretch_turn}
+use Rattle.unions.proofs.merging.merge_stretch.Goals.{In-loop-r}
 use Rattle.unions.proofs.merging.merge_stretch.Goals as goal
+
+-- the row is below 2^lg
+low : (c : In-loop-r) → c.loop-r.t < 2 ^ c.args.lg
+low c = omega (arith, c.loop-r-test, c.loop-r.invariant.0, c.loop-r.invariant.2, c.requires.5)
+
+room : (c : In-loop-r) → c.loop-r.t < length c.loop-r.matrix
+room c = omega (arith, low c, c.loop-r.invariant.3.long, c.requires.1)
 
 pub row_in-t-requires : goal.row_in-t-requires
 row_in-t-requires c = c.requires.0
@@ -20,10 +29,10 @@ loop-r-init c = let a = c.args in
     (omega arith, c.requires.2, omega (arith, c.row_in-t.ensures.0), stretch_start (2 ^ a.lg) a.offset a.window.now a.from a.matrix.now)
 
 pub offset_bounds-matrix-t : goal.offset_bounds-matrix-t
-offset_bounds-matrix-t c = let p : 2 ^ c.args.lg ≤ 2 ^ 26 = pow_mono c.requires.0 in omega (arith, (let low : c.loop-r.t < 2 ^ c.args.lg = omega (arith, c.loop-r-test, c.loop-r.invariant.0, c.loop-r.invariant.2, c.requires.5) in low))
+offset_bounds-matrix-t c = let p : 2 ^ c.args.lg ≤ 2 ^ 26 = pow_mono c.requires.0 in omega (arith, low (goal.at.offset_bounds-matrix-t c).In-loop-r)
 
 pub bounds-matrix-t : goal.bounds-matrix-t
-bounds-matrix-t c = (let room : c.loop-r.t < length c.loop-r.matrix = omega (arith, (let low : c.loop-r.t < 2 ^ c.args.lg = omega (arith, c.loop-r-test, c.loop-r.invariant.0, c.loop-r.invariant.2, c.requires.5) in low), c.loop-r.invariant.3.long, c.requires.1) in room)
+bounds-matrix-t c = room (goal.at.bounds-matrix-t c).In-loop-r
 
 pub bounds-window-r : goal.bounds-window-r
 bounds-window-r c = omega (arith, c.loop-r-test, c.requires.3)
@@ -33,14 +42,14 @@ join-requires c = c.requires.6
 
 pub offset_bounds-matrix-t-in-loop-r : goal.offset_bounds-matrix-t-in-loop-r
 offset_bounds-matrix-t-in-loop-r c = let p : 2 ^ c.args.lg ≤ 2 ^ 26 = pow_mono c.requires.0 in
-    omega (arith, (let low : c.loop-r.t < 2 ^ c.args.lg = omega (arith, c.loop-r-test, c.loop-r.invariant.0, c.loop-r.invariant.2, c.requires.5) in low))
+    omega (arith, low (goal.at.offset_bounds-matrix-t-in-loop-r c).In-loop-r)
 
 pub bounds-matrix-t-in-loop-r : goal.bounds-matrix-t-in-loop-r
-bounds-matrix-t-in-loop-r c = (let room : c.loop-r.t < length c.loop-r.matrix = omega (arith, (let low : c.loop-r.t < 2 ^ c.args.lg = omega (arith, c.loop-r-test, c.loop-r.invariant.0, c.loop-r.invariant.2, c.requires.5) in low), c.loop-r.invariant.3.long, c.requires.1) in room)
+bounds-matrix-t-in-loop-r c = room (goal.at.bounds-matrix-t-in-loop-r c).In-loop-r
 
 pub overflow_add-t : goal.overflow_add-t
 overflow_add-t c = let p : 2 ^ c.args.lg ≤ 2 ^ 26 = pow_mono c.requires.0 in
-    omega (arith, (let low : c.loop-r.t < 2 ^ c.args.lg = omega (arith, c.loop-r-test, c.loop-r.invariant.0, c.loop-r.invariant.2, c.requires.5) in low))
+    omega (arith, low (goal.at.overflow_add-t c).In-loop-r)
 
 pub overflow_add-r : goal.overflow_add-r
 overflow_add-r c = omega (arith, c.loop-r-test, c.requires.4)
@@ -54,7 +63,7 @@ loop-r-preserved c = let l = c.loop-r in
     let w = a.window.now in
     let k = 2 ^ a.lg in
     let e : a.from + (l.r - a.from) ≡ l.r = omega (arith, l.invariant.0) in
-    let h : a.from % k + (l.r - a.from) < k = omega (arith, (let low : c.loop-r.t < 2 ^ c.args.lg = omega (arith, c.loop-r-test, c.loop-r.invariant.0, c.loop-r.invariant.2, c.requires.5) in low), l.invariant.2) in
+    let h : a.from % k + (l.r - a.from) < k = omega (arith, low (goal.at.loop-r-preserved c).In-loop-r, l.invariant.2) in
     let falls : l.t ≡ l.r % k = l.invariant.2 ∙ sym (falls_next k a.from (l.r - a.from) h) ∙ ap (λ (x : ℕ). x % k) e in (
       omega (arith, l.invariant.0),
       omega (arith, c.loop-r-test),

@@ -13,29 +13,42 @@ use Rattle.unions.proofs.Answered.{kept_as}
 use Rattle.unions.proofs.EightBytes.{eights}
 use Rattle.unions.proofs.ShapeTold.{shape_never}
 use Rattle.unions.proofs.SplitTold.{room_short, room_enough, count_fits}
+use borrow.Author.Rules.{rules}
+use Rattle.unions.proofs.splitting.split_rows.Goals.{In-Take, Start}
 use Rattle.unions.proofs.splitting.split_rows.Goals as goal
 
+short : (s : Start) → length s.args.matrix.now ≤ 67108864
+short s = let p : 2 ^ s.args.lg ≤ 2 ^ 26 = pow_mono s.requires.1 in omega (arith, s.requires.2)
+
+whole : (s : Start) → length s.args.matrix.now % 8 ≡ 0
+whole s = ap (λ (n : ℕ). n % 8) s.requires.2 ∙ eights s.args.lg s.requires.0
+
+shaped : (c : In-Take) → ShapeOf c.args.lg c.count_ones_in-ones.result c.in-Take.shape
+shaped c = let lg = c.args.lg in
+    let n = c.count_ones_in-ones.result in
+    (subst (PlannedBy (shape_judged lg n) lg n) c.in-Take.is c.shape_of.ensures).1
+
 pub count_ones_in-ones-requires : goal.count_ones_in-ones-requires
-count_ones_in-ones-requires c = (let short : length c.args.matrix.now ≤ 67108864 = let p : 2 ^ c.args.lg ≤ 2 ^ 26 = pow_mono c.requires.1 in omega (arith, c.requires.2) in short)
+count_ones_in-ones-requires c = short (goal.at.count_ones_in-ones-requires c).Start
 
 pub overflow_cast-ones : goal.overflow_cast-ones
 overflow_cast-ones c = record { fits = rw c.count_ones_in-ones.ensures (coupons_fit c.args.lg c.args.matrix.now c.requires.1 c.requires.2 c.requires.4) }
 
 pub lacks_room-requires : goal.lacks_room-requires
-lacks_room-requires c = ((let short : length c.args.matrix.now ≤ 67108864 = let p : 2 ^ c.args.lg ≤ 2 ^ 26 = pow_mono c.requires.1 in omega (arith, c.requires.2) in short), (let whole : length c.args.matrix.now % 8 ≡ 0 = ap (λ (n : ℕ). n % 8) c.requires.2 ∙ eights c.args.lg c.requires.0 in whole), ((let shaped : ShapeOf c.args.lg c.count_ones_in-ones.result c.in-Take.shape = let lg = c.args.lg in let n = c.count_ones_in-ones.result in (subst (PlannedBy (shape_judged lg n) lg n) c.in-Take.is c.shape_of.ensures).1 in shaped)).small, c.count_ones_in-ones.ensures)
+lacks_room-requires c = (short (goal.at.lacks_room-requires c).Start, whole (goal.at.lacks_room-requires c).Start, (shaped (goal.at.lacks_room-requires c).In-Take).small, c.count_ones_in-ones.ensures)
 
 pub returns-then-lacks_room : goal.returns-then-lacks_room
 returns-then-lacks_room c = let r = c.lacks_room in
     let n = c.count_ones_in-ones in
     let a = c.args in
-    room_short a.lg n.result a.matrix.now a.window.now a.pairs.now c.in-Take.shape n.ensures ((let shaped : ShapeOf c.args.lg c.count_ones_in-ones.result c.in-Take.shape = let lg = c.args.lg in let n = c.count_ones_in-ones.result in (subst (PlannedBy (shape_judged lg n) lg n) c.in-Take.is c.shape_of.ensures).1 in shaped)) (sym r.ensures ∙ c.if-lacks_room.true)
+    room_short a.lg n.result a.matrix.now a.window.now a.pairs.now c.in-Take.shape n.ensures (shaped (goal.at.returns-then-lacks_room c).In-Take) (sym r.ensures ∙ c.if-lacks_room.true)
 
 pub write_parts-found-requires : goal.write_parts-found-requires
 write_parts-found-requires c = let r = c.lacks_room in (
-  (let short : length c.args.matrix.now ≤ 67108864 = let p : 2 ^ c.args.lg ≤ 2 ^ 26 = pow_mono c.requires.1 in omega (arith, c.requires.2) in short),
-  (let whole : length c.args.matrix.now % 8 ≡ 0 = ap (λ (n : ℕ). n % 8) c.requires.2 ∙ eights c.args.lg c.requires.0 in whole),
+  short (goal.at.write_parts-found-requires c).Start,
+  whole (goal.at.write_parts-found-requires c).Start,
   c.requires.3 ∙ sym c.requires.2,
-  ((let shaped : ShapeOf c.args.lg c.count_ones_in-ones.result c.in-Take.shape = let lg = c.args.lg in let n = c.count_ones_in-ones.result in (subst (PlannedBy (shape_judged lg n) lg n) c.in-Take.is c.shape_of.ensures).1 in shaped)).small,
+  (shaped (goal.at.write_parts-found-requires c).In-Take).small,
   ltb-false _ _ (sym r.ensures ∙ c.if-lacks_room.false),
 )
 
@@ -43,13 +56,13 @@ pub overflow_cast-result : goal.overflow_cast-result
 overflow_cast-result c = record { fits = rw c.count_ones_in-ones.ensures (coupons_fit c.args.lg c.args.matrix.now c.requires.1 c.requires.2 c.requires.4) }
 
 pub overflow_cast-result-in-Take : goal.overflow_cast-result-in-Take
-overflow_cast-result-in-Take c = omega (arith, ((let shaped : ShapeOf c.args.lg c.count_ones_in-ones.result c.in-Take.shape = let lg = c.args.lg in let n = c.count_ones_in-ones.result in (subst (PlannedBy (shape_judged lg n) lg n) c.in-Take.is c.shape_of.ensures).1 in shaped)).small)
+overflow_cast-result-in-Take c = omega (arith, (shaped (goal.at.overflow_cast-result-in-Take c).In-Take).small)
 
 pub overflow_cast-result-in-Take-2 : goal.overflow_cast-result-in-Take-2
 overflow_cast-result-in-Take-2 c = omega (arith, trailing_le 64 c.write_parts-found.result.ored)
 
 pub overflow_cast-result-in-Take-3 : goal.overflow_cast-result-in-Take-3
-overflow_cast-result-in-Take-3 c = record { fits = count_fits c.args.lg _ c.args.matrix.now c.in-Take.shape c.write_parts-found.result c.requires.1 c.requires.2 c.requires.4 ((let shaped : ShapeOf c.args.lg c.count_ones_in-ones.result c.in-Take.shape = let lg = c.args.lg in let n = c.count_ones_in-ones.result in (subst (PlannedBy (shape_judged lg n) lg n) c.in-Take.is c.shape_of.ensures).1 in shaped)) c.write_parts-found.ensures.0 }
+overflow_cast-result-in-Take-3 c = record { fits = count_fits c.args.lg _ c.args.matrix.now c.in-Take.shape c.write_parts-found.result c.requires.1 c.requires.2 c.requires.4 (shaped (goal.at.overflow_cast-result-in-Take-3 c).In-Take) c.write_parts-found.ensures.0 }
 
 pub returns-in-Refused : goal.returns-in-Refused
 returns-in-Refused c = let n = c.count_ones_in-ones in
@@ -62,5 +75,5 @@ returns-in-Refused c = let n = c.count_ones_in-ones in
 pub returns-else-lacks_room : goal.returns-else-lacks_room
 returns-else-lacks_room c = let n = c.count_ones_in-ones in
     let a = c.args in
-    room_enough a.lg n.result a.matrix.now a.window.now a.pairs.now c.in-Take.shape n.ensures ((let shaped : ShapeOf c.args.lg c.count_ones_in-ones.result c.in-Take.shape = let lg = c.args.lg in let n = c.count_ones_in-ones.result in (subst (PlannedBy (shape_judged lg n) lg n) c.in-Take.is c.shape_of.ensures).1 in shaped))
+    room_enough a.lg n.result a.matrix.now a.window.now a.pairs.now c.in-Take.shape n.ensures (shaped (goal.at.returns-else-lacks_room c).In-Take)
     c.write_parts-found.result c.write_parts-found.ensures.0 (sym c.lacks_room.ensures ∙ c.if-lacks_room.false) _ _ c.write_parts-found.ensures.1 c.write_parts-found.ensures.2

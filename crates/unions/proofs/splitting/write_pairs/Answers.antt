@@ -1,7 +1,7 @@
 -- `unions::splitting::write_pairs` meets its contract. Assumes nothing.
 use mathlib.Core.Path.{◌≡◌, refl, sym, ap, ◌∙◌, subst}
 use mathlib.Core.List.{List, [], ◌++◌}
-use Prim.Native.Nat.{ℕ}
+use Prim.Native.Nat.{ℕ, ◌-◌, ◌%◌, ◌≤◌}
 use native.Mathlib.Omega.{arith}
 use lib.Bits.{or_zero_l}
 use lib.Count.{count_trailing_zeros}
@@ -10,7 +10,17 @@ use Rattle.matrices.proofs.SplitTurn.{listed_to, to_none, to_all}
 use Rattle.unions.specs.Steps.{Added, block_pairs}
 use Rattle.unions.proofs.Adding.{added_none, added_both, columns_all}
 use Rattle.unions.proofs.Blocks.{listed_found, from_most}
+use Rattle.unions.proofs.splitting.write_pairs.Goals.{After-find_blocks-many}
 use Rattle.unions.proofs.splitting.write_pairs.Goals as goal
+
+-- the surprises of the rows up to the end of the blocks
+chunk : (c : After-find_blocks-many) → listed_to c.args.cut.wide c.args.cut.offset c.args.matrix.now c.blocks_end-to.result
+    ≡ listed_to c.args.cut.wide c.args.cut.offset c.args.matrix.now c.loop-from.from
+    ++ block_pairs c.args.cut.wide c.args.cut.offset c.args.matrix.now c.find_blocks-many.new.found c.find_blocks-many.result
+chunk c = let e = c.blocks_end-to in
+    let a = c.args in
+    let l = c.loop-from in
+    listed_found a.cut.wide a.cut.offset a.matrix.now l.from e.result c.find_blocks-many.new.found c.find_blocks-many.result (omega (arith, e.ensures.0)) c.find_blocks-many.ensures
 
 pub loop-from-init : goal.loop-from-init
 loop-from-init c = let a = c.args in (
@@ -51,7 +61,7 @@ list_blocks-all-requires c = let l = c.loop-from in
         arith,
         l.invariant.3,
         l.invariant.4.count,
-        ap length ((let chunk : listed_to c.args.cut.wide c.args.cut.offset c.args.matrix.now c.blocks_end-to.result ≡ listed_to c.args.cut.wide c.args.cut.offset c.args.matrix.now c.loop-from.from ++ block_pairs c.args.cut.wide c.args.cut.offset c.args.matrix.now c.find_blocks-many.new.found c.find_blocks-many.result = let e = c.blocks_end-to in let a = c.args in let l = c.loop-from in listed_found a.cut.wide a.cut.offset a.matrix.now l.from e.result c.find_blocks-many.new.found c.find_blocks-many.result (omega (arith, e.ensures.0)) c.find_blocks-many.ensures in chunk)),
+        ap length (chunk (goal.at.list_blocks-all-requires c).After-find_blocks-many),
         length-append (listed_to wide o m l.from) blocks,
         from_most wide o m e.result e.ensures.1,
         c.requires.3,
@@ -74,7 +84,7 @@ loop-from-preserved c = let w = c.list_blocks-all in
       e.ensures.3,
       c.find_blocks-many.auto.found ∙ l.invariant.2,
       w.auto.out ∙ l.invariant.3,
-      subst (λ (x : List ℕ). Added x (record { ored = 0; count = 0 }) a.out.now w.result w.new.out) (sym ((let chunk : listed_to c.args.cut.wide c.args.cut.offset c.args.matrix.now c.blocks_end-to.result ≡ listed_to c.args.cut.wide c.args.cut.offset c.args.matrix.now c.loop-from.from ++ block_pairs c.args.cut.wide c.args.cut.offset c.args.matrix.now c.find_blocks-many.new.found c.find_blocks-many.result = let e = c.blocks_end-to in let a = c.args in let l = c.loop-from in listed_found a.cut.wide a.cut.offset a.matrix.now l.from e.result c.find_blocks-many.new.found c.find_blocks-many.result (omega (arith, e.ensures.0)) c.find_blocks-many.ensures in chunk)))
+      subst (λ (x : List ℕ). Added x (record { ored = 0; count = 0 }) a.out.now w.result w.new.out) (sym (chunk (goal.at.loop-from-preserved c).After-find_blocks-many))
           (added_both (listed_to wide o m l.from) blocks (record { ored = 0; count = 0 }) l.all w.result a.out.now l.out w.new.out l.invariant.4 w.ensures),
     )
 
