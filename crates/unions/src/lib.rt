@@ -169,7 +169,8 @@ pub fn merge(
     match planning::judge_merge(state, matrix, source, window, pairs) {
         Plan::Refused(why) => UnionAnswer::Refused(why),
         Plan::Take(shape) => {
-            if source.coupons == 0 {
+            let empty = source.coupons == 0;
+            if empty {
                 return UnionAnswer::Made(state);
             }
             let present = merging::take_in(matrix, state.present, source.lg, shape, window, pairs);

@@ -145,7 +145,8 @@ fn judge_seeds(seed: u64, source: Source, shape: Shape, window: &[u8], pairs: &[
     match judge_source(source.lg, source.coupons, shape, window, pairs) {
         Judgement::Refused(why) => Judgement::Refused(why),
         Judgement::Lawful => {
-            if seed != source.seed {
+            let differ = seed != source.seed;
+            if differ {
                 return Judgement::Refused(Refusal::SeedsDiffer);
             }
             Judgement::Lawful

@@ -1,6 +1,8 @@
 -- `pair_table::delete` meets its contract. Assumes nothing.
 use mathlib.Core.Path.{◌≡◌, sym, ap, ◌∙◌}
 use mathlib.Core.List.{[]}
+use Prim.Native.Nat.{◌-◌}
+use borrow.Author.Rules.{rules}
 use Rattle.refusals.specs.Outcome.{Outcome, accepted, and_then}
 use Rattle.refusals.specs.Told.{told}
 use Rattle.tables.specs.Changes.{deleted}
@@ -9,12 +11,17 @@ use Rattle.pair_table.specs.Told.{told_verdict}
 use Rattle.pair_table.specs.Steps.{delete_on}
 use Rattle.pair_table.proofs.Judging.{judged_refused, call_passed}
 use Rattle.pair_table.proofs.Called.{change_refused, change_done, delete_chain}
+use Rattle.pair_table.proofs.delete.Goals.{In-Passes}
 use Rattle.pair_table.proofs.delete.Goals as goal
+
+judged : (c : In-Passes) → and_then (table_judged c.args.region.now c.args.spare.now c.args.table.lg c.args.table.valid c.args.table.items) (item_judged c.args.table.valid c.args.item 0)
+    ≡ accepted []
+judged c = sym (sym (ap told_verdict c.in-Passes.is) ∙ c.judge_call.ensures)
 
 pub delete_judged-requires : goal.delete_judged-requires
 delete_judged-requires c = let a = c.args in
     let t = a.table in
-    let w = call_passed a.region.now a.spare.now t.lg t.valid t.items a.item ((let judged : and_then (table_judged c.args.region.now c.args.spare.now c.args.table.lg c.args.table.valid c.args.table.items) (item_judged c.args.table.valid c.args.item 0) ≡ accepted [] = sym (sym (ap told_verdict c.in-Passes.is) ∙ c.judge_call.ensures) in judged)) in
+    let w = call_passed a.region.now a.spare.now t.lg t.valid t.items a.item (judged (goal.at.delete_judged-requires c).In-Passes) in
     record { lawful = (w.0.1, w.0.0); item_bound = w.1 }
 
 pub returns-in-Refused : goal.returns-in-Refused
@@ -37,5 +44,5 @@ returns-in-Passes c = let a = c.args in
     let e = a.spare.now in
     let more = delete_on s t.lg t.valid t.items a.item in
     let r = c.delete_judged in
-    let is : delete_of s e t.lg t.valid t.items a.item ≡ more = delete_chain s e t.lg t.valid t.items a.item ∙ ap (λ (o : Outcome). and_then o more) ((let judged : and_then (table_judged c.args.region.now c.args.spare.now c.args.table.lg c.args.table.valid c.args.table.items) (item_judged c.args.table.valid c.args.item 0) ≡ accepted [] = sym (sym (ap told_verdict c.in-Passes.is) ∙ c.judge_call.ensures) in judged)) in
+    let is : delete_of s e t.lg t.valid t.items a.item ≡ more = delete_chain s e t.lg t.valid t.items a.item ∙ ap (λ (o : Outcome). and_then o more) (judged (goal.at.returns-in-Passes c).In-Passes) in
     change_done (delete_of s e t.lg t.valid t.items a.item) more s e (deleted s t.lg t.valid t.items a.item) r.new.region r.new.spare r.result is r.ensures

@@ -1,8 +1,9 @@
 -- `table_listings::extract` meets its contract. Assumes nothing.
 use mathlib.Core.Path.{◌≡◌, refl, ap, ◌∙◌}
 use mathlib.Core.List.{[], ◌∷◌, ◌++◌}
-use Prim.Native.Nat.{◌^◌}
+use Prim.Native.Nat.{◌+◌, ◌-◌, ◌^◌}
 use lib.ListN.{take, drop}
+use borrow.Author.Rules.{rules}
 use Rattle.refusals.specs.Outcome.{accepted, and_then}
 use Rattle.tables.specs.Listings.{extraction}
 use Rattle.tables.specs.Calls.{list_of_items}
@@ -10,12 +11,17 @@ use Rattle.pair_table.specs.Told.{told_verdict}
 use Rattle.pair_table.specs.declared.Verdict.{Verdict}
 use Rattle.pair_table.proofs.Judging.{judged_refused}
 use Rattle.table_listings.proofs.Listed.{listable, list_refused, list_done}
+use Rattle.table_listings.proofs.extract.Goals.{In-Passes}
 use Rattle.table_listings.proofs.extract.Goals as goal
+
+judged : (c : In-Passes) → list_of_items c.args.region.now c.args.spare.now c.args.table.lg c.args.table.valid c.args.table.items c.args.out.now
+    ≡ accepted (c.args.table.items ∷ [])
+judged c = c.judge_room.ensures ∙ ap (λ (r : Verdict). and_then (told_verdict r) (accepted (c.args.table.items ∷ []))) c.in-Passes.is
 
 pub extract_into-requires : goal.extract_into-requires
 extract_into-requires c = let a = c.args in
     let t = a.table in
-    listable a.region.now a.spare.now t.lg t.valid t.items a.out.now ((let judged : list_of_items c.args.region.now c.args.spare.now c.args.table.lg c.args.table.valid c.args.table.items c.args.out.now ≡ accepted (c.args.table.items ∷ []) = c.judge_room.ensures ∙ ap (λ (r : Verdict). and_then (told_verdict r) (accepted (c.args.table.items ∷ []))) c.in-Passes.is in judged))
+    listable a.region.now a.spare.now t.lg t.valid t.items a.out.now (judged (goal.at.extract_into-requires c).In-Passes)
 
 pub returns-in-Refused : goal.returns-in-Refused
 returns-in-Refused c = let a = c.args in
@@ -32,4 +38,4 @@ returns-in-Passes c = let a = c.args in
     let t = a.table in
     let x = c.extract_into in
     list_done (list_of_items a.region.now a.spare.now t.lg t.valid t.items a.out.now) (accepted (t.items ∷ []))
-    (extraction (take (2 ^ t.lg) a.region.now) t.valid ++ drop t.items a.out.now) a.out.now t.items x.new.out ((let judged : list_of_items c.args.region.now c.args.spare.now c.args.table.lg c.args.table.valid c.args.table.items c.args.out.now ≡ accepted (c.args.table.items ∷ []) = c.judge_room.ensures ∙ ap (λ (r : Verdict). and_then (told_verdict r) (accepted (c.args.table.items ∷ []))) c.in-Passes.is in judged)) x.ensures
+    (extraction (take (2 ^ t.lg) a.region.now) t.valid ++ drop t.items a.out.now) a.out.now t.items x.new.out (judged (goal.at.returns-in-Passes c).In-Passes) x.ensures

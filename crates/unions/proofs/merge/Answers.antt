@@ -29,10 +29,10 @@ found c = let a = c.args in
 lawful : (c : In-Take) → Lawful c.args.state.lg c.args.state.present c.args.matrix.now
 lawful c = let a = c.args in lawful_is a.state.lg a.state.present a.matrix.now (found c).lawful
 
-pub returns-then-source-eq0 : goal.returns-then-source-eq0
-returns-then-source-eq0 c = let a = c.args in
-    merge_empty a.state.lg a.state.present a.state.seed a.matrix.now a.source.lg a.source.seed a.source.coupons a.window.now a.pairs.now (planned (goal.at.returns-then-source-eq0 c).In-Take).0
-    c.if-source-eq0.true
+pub returns-then-empty : goal.returns-then-empty
+returns-then-empty c = let a = c.args in
+    merge_empty a.state.lg a.state.present a.state.seed a.matrix.now a.source.lg a.source.seed a.source.coupons a.window.now a.pairs.now (planned (goal.at.returns-then-empty c).In-Take).0
+    c.if-empty.true
 
 pub take_in-present-requires : goal.take_in-present-requires
 take_in-present-requires c = let a = c.args in
@@ -55,14 +55,14 @@ returns-in-Refused c = let a = c.args in
     merge_refused a.state.lg a.state.present a.state.seed a.matrix.now a.source.lg a.source.seed a.source.coupons a.window.now a.pairs.now c.in-Refused.why
     (subst (PlannedBy ((merge_judged c.args.state.lg c.args.state.present c.args.state.seed c.args.matrix.now c.args.source.lg c.args.source.seed c.args.source.coupons c.args.window.now c.args.pairs.now)) a.source.lg a.source.coupons) c.in-Refused.is c.judge_merge.ensures)
 
-pub returns-else-source-eq0 : goal.returns-else-source-eq0
-returns-else-source-eq0 c = let a = c.args in
-    let f = found (goal.at.returns-else-source-eq0 c).In-Take in
-    let p = planned (goal.at.returns-else-source-eq0 c).In-Take in
+pub returns-else-empty : goal.returns-else-empty
+returns-else-empty c = let a = c.args in
+    let f = found (goal.at.returns-else-empty c).In-Take in
+    let p = planned (goal.at.returns-else-empty c).In-Take in
     let shape = c.in-Take.shape in
     let k = min a.state.present a.source.lg in
     merge_taken a.state.lg a.state.present a.state.seed a.matrix.now a.source.lg a.source.seed a.source.coupons a.window.now a.pairs.now p.0
-    c.if-source-eq0.false c.take_in-present.result c.take_in-present.new.matrix c.take_in-present.ensures.0
+    c.if-empty.false c.take_in-present.result c.take_in-present.new.matrix c.take_in-present.ensures.0
     (c.take_in-present.ensures.1
     ∙ ap (λ (b : Bool). source_merged k b shape.offset (lowered a.state.present a.source.lg a.matrix.now) a.window.now a.pairs.now) p.1.wide
-    ∙ source_taken a.source.lg a.source.coupons a.window.now a.pairs.now shape.offset p.1.offset f.source.pairs f.bytes a.state.present a.matrix.now (lawful (goal.at.returns-else-source-eq0 c).In-Take).rest)
+    ∙ source_taken a.source.lg a.source.coupons a.window.now a.pairs.now shape.offset p.1.offset f.source.pairs f.bytes a.state.present a.matrix.now (lawful (goal.at.returns-else-empty c).In-Take).rest)

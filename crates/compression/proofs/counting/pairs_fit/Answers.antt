@@ -11,7 +11,17 @@ use Rattle.streams.specs.Codes.{total}
 use Rattle.streams.specs.Written.{codes_from, pairs_bits}
 use Rattle.compression.specs.Writing.{pad_of}
 use Rattle.compression.proofs.WrittenCalls.{within_granted, bits_small, enough}
+use borrow.Author.Rules.{rules}
+use Rattle.compression.proofs.counting.pairs_fit.Goals.{After-pad_for}
 use Rattle.compression.proofs.counting.pairs_fit.Goals as goal
+
+-- both parts are those of the bits
+counted : (c : After-pad_for) → c.count_pairs.result + c.pad_for.result
+    ≡ pairs_bits c.args.book.now (2 ^ c.args.lg) c.args.pairs.now
+counted c = let a = c.args in
+    let n : ℕ = length a.pairs.now in
+    ap₂ ◌+◌ (c.count_pairs.ensures ∙ ap (λ (b : ℕ). total (codes_from a.book.now b 0 0 a.pairs.now)) c.requires.1)
+    (c.pad_for.ensures.0 ∙ ap (λ (b : ℕ). pad_of b n) c.requires.1)
 
 pub returns-then-fits : goal.returns-then-fits
 returns-then-fits c = let a = c.args in
@@ -32,7 +42,7 @@ count_pairs-requires c = let a = c.args in
 
 pub overflow_add-bits : goal.overflow_add-bits
 overflow_add-bits c = let a = c.args in
-    omega (arith, bits_small a.book.now a.lg a.pairs.now c.requires.0, (let counted : c.count_pairs.result + c.pad_for.result ≡ pairs_bits c.args.book.now (2 ^ c.args.lg) c.args.pairs.now = let a = c.args in let n : ℕ = length a.pairs.now in ap₂ ◌+◌ (c.count_pairs.ensures ∙ ap (λ (b : ℕ). total (codes_from a.book.now b 0 0 a.pairs.now)) c.requires.1) (c.pad_for.ensures.0 ∙ ap (λ (b : ℕ). pad_of b n) c.requires.1) in counted))
+    omega (arith, bits_small a.book.now a.lg a.pairs.now c.requires.0, counted (goal.at.overflow_add-bits c).After-pad_for)
 
 pub returns : goal.returns
-returns c = c.fits-2.ensures ∙ ap (λ (n : ℕ). leb (words_for n) c.args.room.0) ((let counted : c.count_pairs.result + c.pad_for.result ≡ pairs_bits c.args.book.now (2 ^ c.args.lg) c.args.pairs.now = let a = c.args in let n : ℕ = length a.pairs.now in ap₂ ◌+◌ (c.count_pairs.ensures ∙ ap (λ (b : ℕ). total (codes_from a.book.now b 0 0 a.pairs.now)) c.requires.1) (c.pad_for.ensures.0 ∙ ap (λ (b : ℕ). pad_of b n) c.requires.1) in counted))
+returns c = c.fits-2.ensures ∙ ap (λ (n : ℕ). leb (words_for n) c.args.room.0) (counted (goal.at.returns c).After-pad_for)

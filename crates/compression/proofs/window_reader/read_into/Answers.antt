@@ -1,11 +1,20 @@
 -- `compression::window_reader::read_into` meets its contract. Assumes nothing.
 use mathlib.Core.Path.{subst}
+use Prim.Native.Nat.{◌-◌}
 use native.Mathlib.Omega.{arith}
+use borrow.Author.Rules.{rules}
+use lib.ListN.{length}
+use Rattle.streams.specs.Looks.{Looked}
 use Rattle.compression.specs.Reading.{place_of, TakenBy, code_is}
 use Rattle.compression.specs.declared.reader.Taken.TheVariants.{Value}
 use Rattle.compression.proofs.ReaderBuffer.{begin_stands}
-use Rattle.compression.proofs.ReadingWindow.{window_start, window_turn, window_cut, window_end}
+use Rattle.compression.proofs.ReadingWindow.{WindowHead, window_start, window_turn, window_cut, window_end}
+use Rattle.compression.proofs.window_reader.read_into.Goals.{In-Value}
 use Rattle.compression.proofs.window_reader.read_into.Goals as goal
+
+-- where a byte was found
+byte_seen : (c : In-Value) → TakenBy c.args.stream.now ((code_is c.args.stream.now c.args.table.now (place_of c.loop-i.cursor))) 256 (Value c.in-Value.byte c.in-Value.after)
+byte_seen c = subst (TakenBy c.args.stream.now ((code_is c.args.stream.now c.args.table.now (place_of c.loop-i.cursor))) 256) c.in-Value.is c.take_code.ensures
 
 pub loop-i-init : goal.loop-i-init
 loop-i-init c = let a = c.args in
@@ -25,11 +34,11 @@ returns-in-Ends c = let a = c.args in
     (subst (TakenBy a.stream.now ((code_is c.args.stream.now c.args.table.now (place_of c.loop-i.cursor))) 256) c.in-Ends.is c.take_code.ensures)
 
 pub overflow_cast-window : goal.overflow_cast-window
-overflow_cast-window c = let e = (let byte_seen : TakenBy c.args.stream.now ((code_is c.args.stream.now c.args.table.now (place_of c.loop-i.cursor))) 256 (Value c.in-Value.byte c.in-Value.after) = subst (TakenBy c.args.stream.now ((code_is c.args.stream.now c.args.table.now (place_of c.loop-i.cursor))) 256) c.in-Value.is c.take_code.ensures in byte_seen) in omega arith
+overflow_cast-window c = let e = byte_seen (goal.at.overflow_cast-window c).In-Value in omega arith
 
 pub loop-i-preserved : goal.loop-i-preserved
 loop-i-preserved c = let a = c.args in
-    let e = (let byte_seen : TakenBy c.args.stream.now ((code_is c.args.stream.now c.args.table.now (place_of c.loop-i.cursor))) 256 (Value c.in-Value.byte c.in-Value.after) = subst (TakenBy c.args.stream.now ((code_is c.args.stream.now c.args.table.now (place_of c.loop-i.cursor))) 256) c.in-Value.is c.take_code.ensures in byte_seen) in
+    let e = byte_seen (goal.at.loop-i-preserved c).In-Value in
     window_turn a.stream.now a.table.now a.window.now c.loop-i.window c.loop-i.cursor c.loop-i.i c.loop-i.invariant c.in-Value.byte
     c.in-Value.after (omega (arith, c.loop-i.invariant.size)) e.1 e.0
 

@@ -8,13 +8,19 @@ use Rattle.refusals.specs.Outcome.{Outcome, accepted, refused, and_then}
 use Rattle.matrices.specs.Source.{source_judged}
 use Rattle.unions.specs.Told.{told_judged}
 use Rattle.unions.proofs.Answered.{through}
+use borrow.Author.Rules.{rules}
+use Rattle.unions.proofs.planning.judge_seeds.Goals.{In-Lawful}
 use Rattle.unions.proofs.planning.judge_seeds.Goals as goal
 
-pub returns-then-seed-source : goal.returns-then-seed-source
-returns-then-seed-source c = sym (ap₂ (λ (o : Outcome) (b : Bool). and_then o (choose (not b) (refused 16 0) (accepted []))) ((let judged : source_judged c.args.source.lg c.args.source.coupons c.args.window.now c.args.pairs.now ≡ accepted [] = sym (sym (ap told_judged c.in-Lawful.is) ∙ c.judge_source.ensures) in judged)) (ne_eqb _ _ c.if-seed-source.true))
+-- the source is lawful
+judged : (c : In-Lawful) → source_judged c.args.source.lg c.args.source.coupons c.args.window.now c.args.pairs.now ≡ accepted []
+judged c = sym (sym (ap told_judged c.in-Lawful.is) ∙ c.judge_source.ensures)
+
+pub returns-then-differ : goal.returns-then-differ
+returns-then-differ c = sym (ap₂ (λ (o : Outcome) (b : Bool). and_then o (choose (not b) (refused 16 0) (accepted []))) (judged (goal.at.returns-then-differ c).In-Lawful) (ne_eqb _ _ c.if-differ.true))
 
 pub returns-in-Refused : goal.returns-in-Refused
 returns-in-Refused c = through c.in-Refused.why _ (sym (ap told_judged c.in-Refused.is) ∙ c.judge_source.ensures)
 
-pub returns-else-seed-source : goal.returns-else-seed-source
-returns-else-seed-source c = sym (ap₂ (λ (o : Outcome) (b : Bool). and_then o (choose (not b) (refused 16 0) (accepted []))) ((let judged : source_judged c.args.source.lg c.args.source.coupons c.args.window.now c.args.pairs.now ≡ accepted [] = sym (sym (ap told_judged c.in-Lawful.is) ∙ c.judge_source.ensures) in judged)) (eq-eqb _ _ c.if-seed-source.false))
+pub returns-else-differ : goal.returns-else-differ
+returns-else-differ c = sym (ap₂ (λ (o : Outcome) (b : Bool). and_then o (choose (not b) (refused 16 0) (accepted []))) (judged (goal.at.returns-else-differ c).In-Lawful) (eq-eqb _ _ c.if-differ.false))

@@ -10,13 +10,19 @@ use lib.ListN.{length}
 use Rattle.matrices.specs.Parts.{surprise_pairs}
 use Rattle.matrices.proofs.SplitMost.{surprises_most}
 use Rattle.matrices.proofs.Undone.{coupons_most}
+use borrow.Author.Rules.{rules}
+use Rattle.unions.proofs.splitting.lacks_room.Goals.{Start}
 use Rattle.unions.proofs.splitting.lacks_room.Goals as goal
 
+-- the cells below the offset
+cells : (s : Start) → s.args.shape.offset * length s.args.matrix.now ≤ 61 * length s.args.matrix.now
+cells s = mul-le-mul_right (length s.args.matrix.now) s.requires.2
+
 pub overflow_mul-shape : goal.overflow_mul-shape
-overflow_mul-shape c = omega (arith, (let cells : c.args.shape.offset * length c.args.matrix.now ≤ 61 * length c.args.matrix.now = mul-le-mul_right (length c.args.matrix.now) c.requires.2 in cells), c.requires.0)
+overflow_mul-shape c = omega (arith, cells (goal.at.overflow_mul-shape c).Start, c.requires.0)
 
 pub overflow_add-ones : goal.overflow_add-ones
-overflow_add-ones c = omega (arith, (let cells : c.args.shape.offset * length c.args.matrix.now ≤ 61 * length c.args.matrix.now = mul-le-mul_right (length c.args.matrix.now) c.requires.2 in cells), c.requires.0, c.requires.3, coupons_most c.args.matrix.now)
+overflow_add-ones c = omega (arith, cells (goal.at.overflow_add-ones c).Start, c.requires.0, c.requires.3, coupons_most c.args.matrix.now)
 
 pub returns-then-ones-shape : goal.returns-then-ones-shape
 returns-then-ones-shape c = let a = c.args in
