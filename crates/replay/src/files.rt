@@ -51,11 +51,15 @@ fn load(rt: &HostRuntime, name: &str, text: &mut [u8]) -> Filled {
     }
 }
 
+fn say(rt: &HostRuntime, name: &str, line: u64, what: &str) -> io::Result<()> {
+    println!(rt; "{name} line {line}: {what}")
+}
+
 fn report(rt: &HostRuntime, name: &str, line: u64, verdict: Verdict) -> io::Result<()> {
     match verdict {
         Verdict::Agrees => Ok(()),
-        Verdict::Disagrees => println!(rt; "{name} line {line}: disagrees"),
-        _ => println!(rt; "{name} line {line}: not a case"),
+        Verdict::Disagrees => say(rt, name, line, "disagrees"),
+        _ => say(rt, name, line, "not a case"),
     }
 }
 
@@ -91,6 +95,10 @@ fn replay_lines(rt: &HostRuntime, name: &str, text: &[u8]) -> io::Result<Tally> 
     Ok(Tally { ran, agreed })
 }
 
+fn sum_up(rt: &HostRuntime, name: &str, tally: Tally) -> io::Result<()> {
+    println!(rt; "{name}: {} of {} cases agree", tally.agreed, tally.ran)
+}
+
 pub fn replay(rt: &HostRuntime, name: &str) -> io::Result<()> {
     let mut space = [0u8; 262144];
     let text: &mut [u8] = &mut space;
@@ -98,5 +106,5 @@ pub fn replay(rt: &HostRuntime, name: &str) -> io::Result<()> {
         return println!(rt; "{name}: cannot be read whole, so no case was run");
     };
     let tally = replay_lines(rt, name, lists_u8::front(text, length))?;
-    println!(rt; "{name}: {} of {} cases agree", tally.agreed, tally.ran)
+    sum_up(rt, name, tally)
 }
