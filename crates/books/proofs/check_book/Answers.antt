@@ -4,7 +4,6 @@ use mathlib.Core.Bool.{true, false}
 use borrow.Author.Tests.{not-true, not-false}
 use Rattle.books.specs.Book.{sized}
 use Rattle.books.proofs.Verdicts.{check_sized, sized_short}
-use borrow.Author.Rules.{rules}
 use Rattle.books.proofs.check_book.Goals.{Else-not-right_length}
 use Rattle.books.proofs.check_book.Goals as goal
 

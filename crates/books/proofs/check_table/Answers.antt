@@ -10,7 +10,6 @@ use Rattle.books.specs.Told.{told_check}
 use Rattle.books.specs.Steps.{taken}
 use Rattle.books.proofs.Shaping.{all_shaped}
 use Rattle.books.proofs.Verdicts.{fit, fit_both, check_fit, first_refused, first_accepted, shaped_judged}
-use borrow.Author.Rules.{rules}
 use Rattle.books.proofs.check_table.Goals.{Else-not-right_lengths, In-Passes}
 use Rattle.books.proofs.check_table.Goals as goal
 

@@ -10,7 +10,6 @@ use borrow.Author.Tests.{not-true, not-false}
 use Rattle.books.specs.Told.{told_check}
 use Rattle.books.proofs.Shaping.{all_shaped}
 use Rattle.books.proofs.Verdicts.{fit, fit_both, fill_fit, fill_refused, fill_accepted, judged_accepted}
-use borrow.Author.Rules.{rules}
 use Rattle.books.proofs.fill_table.Goals.{Else-not-right_lengths, In-Passes}
 use Rattle.books.proofs.fill_table.Goals as goal
 

@@ -6,7 +6,6 @@ use Rattle.books.specs.Told.{told_check}
 use Rattle.books.specs.Steps.{taken}
 use Rattle.books.proofs.Shaping.{all_shaped}
 use Rattle.books.proofs.Verdicts.{first_refused, first_accepted, shaped_judged}
-use borrow.Author.Rules.{rules}
 use Rattle.books.proofs.judge_book.Goals.{In-Passes}
 use Rattle.books.proofs.judge_book.Goals as goal
 

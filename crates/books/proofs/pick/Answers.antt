@@ -3,7 +3,6 @@ use native.Mathlib.Omega.{arith}
 use mathlib.Core.Path.{◌≡◌, sym, ap, ◌∙◌}
 use Prim.Native.Nat.{◌*◌, ◌≤◌}
 use lib.ListN.{length}
-use borrow.Author.Rules.{rules}
 use Rattle.books.specs.Told.{told_pick}
 use Rattle.books.proofs.Picking.{picked_at, handed, nothing}
 use Rattle.books.proofs.pick.Goals.{In-At}

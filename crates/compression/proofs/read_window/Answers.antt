@@ -1,7 +1,6 @@
 -- `compression::read_window` meets its contract. Assumes nothing.
 use mathlib.Core.Path.{◌≡◌, sym, ap, ◌∙◌}
 use mathlib.Core.List.{[]}
-use borrow.Author.Rules.{rules}
 use lib.ListN.{length}
 use Rattle.refusals.specs.Outcome.{accepted}
 use Rattle.refusals.specs.Told.{told}

@@ -8,7 +8,6 @@ use Rattle.streams.specs.Written.{pairs_codes, pairs_bits}
 use Rattle.streams.specs.Calls.{write_pairs_of}
 use Rattle.compression.specs.Writing.{lent_judged}
 use Rattle.compression.proofs.WrittenCalls.{writable, pairs_chain, call_refused, call_judged}
-use borrow.Author.Rules.{rules}
 use Rattle.compression.proofs.write_pairs.Goals.{In-Lawful}
 use Rattle.compression.proofs.write_pairs.Goals as goal
 

@@ -7,7 +7,6 @@ use Rattle.streams.specs.Written.{window_codes, window_bits}
 use Rattle.streams.specs.Calls.{write_window_of}
 use Rattle.compression.specs.Writing.{window_judged}
 use Rattle.compression.proofs.WrittenCalls.{window_taken, window_chain, call_refused, call_judged}
-use borrow.Author.Rules.{rules}
 use Rattle.compression.proofs.write_window.Goals.{In-Passes}
 use Rattle.compression.proofs.write_window.Goals as goal
 

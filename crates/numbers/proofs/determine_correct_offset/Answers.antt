@@ -1,7 +1,6 @@
 -- `numbers::determine_correct_offset` meets its contract. Assumes nothing.
 use Prim.Native.Nat.{◌*◌, ◌^◌, ◌<◌}
 use native.Mathlib.Omega.{arith}
-use borrow.Author.Rules.{rules}
 use borrow.Author.Tests.{lt-ltb, le-ltb}
 use Rattle.numbers.specs.Calls.{offset_of}
 use Rattle.numbers.proofs.RowsTold.{RowsAt, matched_rows, matched_refused}

@@ -1,6 +1,5 @@
 -- `numbers::determine_flavor` meets its contract. Assumes nothing.
 use native.Mathlib.Omega.{arith}
-use borrow.Author.Rules.{rules}
 use Rattle.numbers.specs.Calls.{flavor_of}
 use Rattle.numbers.proofs.RowsTold.{RowsAt, matched_rows, matched_refused}
 use Rattle.numbers.proofs.determine_flavor.Goals.{In-Rows}

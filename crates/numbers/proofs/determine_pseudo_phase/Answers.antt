@@ -1,6 +1,5 @@
 -- `numbers::determine_pseudo_phase` meets its contract. Assumes nothing.
 use native.Mathlib.Omega.{arith}
-use borrow.Author.Rules.{rules}
 use Rattle.numbers.specs.Calls.{phase_of}
 use Rattle.numbers.proofs.RowsTold.{RowsAt, matched_rows, matched_refused}
 use Rattle.numbers.proofs.determine_pseudo_phase.Goals.{In-Rows}

@@ -1,6 +1,5 @@
 -- `numbers::most_bits` meets its contract. Assumes nothing.
 use native.Mathlib.Omega.{arith}
-use borrow.Author.Rules.{rules}
 use borrow.Author.Tests.{lt-ltb, le-ltb}
 use Rattle.numbers.specs.Calls.{most_bits_of}
 use Rattle.numbers.proofs.RowsTold.{RowsAt, matched_rows, matched_refused}

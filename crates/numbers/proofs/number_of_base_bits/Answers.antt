@@ -1,6 +1,5 @@
 -- `numbers::number_of_base_bits` meets its contract. Assumes nothing.
 use native.Mathlib.Omega.{arith}
-use borrow.Author.Rules.{rules}
 use Rattle.numbers.specs.Calls.{base_bits_of}
 use Rattle.numbers.proofs.RowsTold.{RowsAt, matched_rows, matched_refused}
 use Rattle.numbers.proofs.number_of_base_bits.Goals.{In-Rows}

@@ -1,8 +1,6 @@
 -- `pair_table::build` meets its contract. Assumes nothing.
 use mathlib.Core.Path.{◌≡◌, sym, ap, ◌∙◌}
 use mathlib.Core.List.{[]}
-use Prim.Native.Nat.{◌-◌}
-use borrow.Author.Rules.{rules}
 use Rattle.refusals.specs.Outcome.{Outcome, accepted, and_then}
 use Rattle.tables.specs.Calls.{build_of}
 use Rattle.pair_table.specs.Told.{told_verdict}

@@ -1,8 +1,6 @@
 -- `pair_table::delete` meets its contract. Assumes nothing.
 use mathlib.Core.Path.{◌≡◌, sym, ap, ◌∙◌}
 use mathlib.Core.List.{[]}
-use Prim.Native.Nat.{◌-◌}
-use borrow.Author.Rules.{rules}
 use Rattle.refusals.specs.Outcome.{Outcome, accepted, and_then}
 use Rattle.refusals.specs.Told.{told}
 use Rattle.tables.specs.Changes.{deleted}

@@ -1,9 +1,8 @@
 -- `table_listings::extract` meets its contract. Assumes nothing.
 use mathlib.Core.Path.{◌≡◌, refl, ap, ◌∙◌}
 use mathlib.Core.List.{[], ◌∷◌, ◌++◌}
-use Prim.Native.Nat.{◌+◌, ◌-◌, ◌^◌}
+use Prim.Native.Nat.{◌^◌}
 use lib.ListN.{take, drop}
-use borrow.Author.Rules.{rules}
 use Rattle.refusals.specs.Outcome.{accepted, and_then}
 use Rattle.tables.specs.Listings.{extraction}
 use Rattle.tables.specs.Calls.{list_of_items}

@@ -1,9 +1,8 @@
 -- `table_listings::walk` meets its contract. Assumes nothing.
 use mathlib.Core.Path.{◌≡◌, refl, ap, ◌∙◌}
 use mathlib.Core.List.{[], ◌∷◌, ◌++◌}
-use Prim.Native.Nat.{ℕ, ◌+◌, ◌-◌}
+use Prim.Native.Nat.{ℕ}
 use lib.ListN.{drop}
-use borrow.Author.Rules.{rules}
 use Rattle.refusals.specs.Outcome.{accepted, and_then}
 use Rattle.tables.specs.Listings.{walk_order}
 use Rattle.tables.specs.Calls.{list_of_items}

@@ -7,7 +7,6 @@ use Rattle.numbers.proofs.RowsTold.{RowsAt, matched_rows, matched_refused}
 use Rattle.matrices.specs.Calls.{count_of}
 use Rattle.matrices.specs.Matrix.{reserved}
 use Rattle.matrices.proofs.Fits.{coupons_fit}
-use borrow.Author.Rules.{rules}
 use Rattle.unions.proofs.count.Goals.{Else-has_reserved, In-Rows}
 use Rattle.unions.proofs.count.Goals as goal
 

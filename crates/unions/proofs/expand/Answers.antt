@@ -14,7 +14,6 @@ use Rattle.matrices.proofs.Judged.{judged_sorted, judged_row}
 use Rattle.unions.specs.Steps.{PlannedBy, ShapeOf}
 use Rattle.unions.proofs.Answered.{kept_as}
 use Rattle.unions.proofs.PlanSteps.{expand_chain}
-use borrow.Author.Rules.{rules}
 use Rattle.unions.proofs.expand.Goals.{After-judge_expansion, In-Take}
 use Rattle.unions.proofs.expand.Goals as goal
 

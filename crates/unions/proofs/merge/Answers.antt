@@ -6,7 +6,7 @@ use Prim.Native.Nat.{◌^◌, ◌≤◌, min}
 use native.Mathlib.Omega.{arith}
 use lib.ListN.{length}
 use lib.Pow.{pow_mono}
-use Rattle.refusals.specs.Outcome.{Outcome, accepted}
+use Rattle.refusals.specs.Outcome.{accepted}
 use Rattle.matrices.specs.Calls.{merge_judged}
 use Rattle.matrices.specs.Source.{has_window}
 use Rattle.matrices.proofs.Answered.{Merged, merge_accepted, inside_most}
@@ -15,7 +15,6 @@ use Rattle.matrices.proofs.Lawful.{Lawful, lawful_is}
 use Rattle.unions.specs.Steps.{PlannedBy, ShapeOf, source_merged, lowered}
 use Rattle.unions.proofs.MergeTold.{merge_refused, merge_empty, merge_taken}
 use Rattle.unions.proofs.SourceTaken.{source_taken, window_short}
-use borrow.Author.Rules.{rules}
 use Rattle.unions.proofs.merge.Goals.{In-Take}
 use Rattle.unions.proofs.merge.Goals as goal
 

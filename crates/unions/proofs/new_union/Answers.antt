@@ -3,7 +3,6 @@ use borrow.Author.Tests.{eq-eqb, ne_eqb}
 use Rattle.numbers.proofs.RowsTold.{RowsAt, matched_rows, matched_refused}
 use Rattle.matrices.specs.Calls.{new_union_of}
 use Rattle.unions.proofs.Answered.{kept_as}
-use borrow.Author.Rules.{rules}
 use Rattle.unions.proofs.new_union.Goals.{In-Rows}
 use Rattle.unions.proofs.new_union.Goals as goal
 

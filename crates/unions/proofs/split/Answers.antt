@@ -7,7 +7,6 @@ use Rattle.matrices.specs.Calls.{split_of}
 use Rattle.matrices.specs.Matrix.{reserved}
 use Rattle.unions.proofs.Answered.{kept_as}
 use Rattle.unions.proofs.SplitTold.{split_kept, split_whole}
-use borrow.Author.Rules.{rules}
 use Rattle.unions.proofs.split.Goals.{Else-has_reserved, In-Rows}
 use Rattle.unions.proofs.split.Goals as goal
 

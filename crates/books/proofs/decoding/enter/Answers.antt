@@ -1,11 +1,10 @@
 -- `books::decoding::enter` meets its contract. Assumes nothing.
 use native.Mathlib.Omega.{arith}
 use mathlib.Core.Path.{◌≡◌}
-use Prim.Native.Nat.{◌-◌, ◌*◌, ◌/◌, ◌%◌, ◌^◌}
+use Prim.Native.Nat.{◌*◌, ◌/◌, ◌%◌, ◌^◌}
 use Rattle.laws.proofs.Shifts.{one_shl}
 use Rattle.books.specs.Book.{length_in}
-use Rattle.books.proofs.Filling.{Entering, entering_start, entering_turn, entering_end}
-use borrow.Author.Rules.{rules}
+use Rattle.books.proofs.Filling.{entering_start, entering_turn, entering_end}
 use Rattle.books.proofs.decoding.enter.Goals.{After-entry_of-value}
 use Rattle.books.proofs.decoding.enter.Goals as goal
 

@@ -1,12 +1,11 @@
 -- `books::decoding::stands` meets its contract. Assumes nothing.
 use native.Mathlib.Omega.{arith}
 use mathlib.Core.Path.{◌≡◌, sym, ap, ◌∙◌, subst}
-use Prim.Native.Nat.{ℕ, ◌+◌, ◌-◌, ◌*◌, ◌%◌, ◌≤◌, ◌<◌}
+use Prim.Native.Nat.{ℕ, ◌+◌, ◌*◌, ◌%◌}
 use borrow.Author.Count.{below_more}
-use lib.ListN.{length, get_or}
+use lib.ListN.{get_or}
 use Rattle.books.specs.Book.{length_in, codeword_in}
 use Rattle.books.specs.Steps.{Shape, entry_of}
-use borrow.Author.Rules.{rules}
 use Rattle.books.proofs.decoding.stands.Goals.{After-entry_of}
 use Rattle.books.proofs.decoding.stands.Goals as goal
 

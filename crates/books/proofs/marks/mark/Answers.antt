@@ -8,7 +8,6 @@ use lib.Pow.{pow_mono}
 use Rattle.laws.proofs.Shifts.{one_shl}
 use Rattle.books.specs.Steps.{Marked}
 use Rattle.books.proofs.Marking.{mark_short, mark_long}
-use borrow.Author.Rules.{rules}
 use Rattle.books.proofs.marks.mark.Goals.{Else-len-lt7}
 use Rattle.books.proofs.marks.mark.Goals as goal
 

@@ -1,12 +1,11 @@
 -- `books::marks::pattern` meets its contract. Assumes nothing.
 use native.Mathlib.Omega.{arith}
 use mathlib.Core.Path.{sym, subst}
-use Prim.Native.Nat.{ℕ, ◌+◌, ◌-◌, ◌*◌, ◌%◌, ◌^◌, ◌<◌}
+use Prim.Native.Nat.{ℕ, ◌+◌, ◌*◌, ◌%◌, ◌^◌, ◌<◌}
 use lib.Bits.{bit_or}
 use lib.Pow.{pow_mono}
 use Rattle.laws.proofs.Shifts.{one_shl}
 use Rattle.books.proofs.Patterns.{Pattern, pattern_start, pattern_turn, pattern_end}
-use borrow.Author.Rules.{rules}
 use Rattle.books.proofs.marks.pattern.Goals.{Start}
 use Rattle.books.proofs.marks.pattern.Goals as goal
 

@@ -11,7 +11,6 @@ use Rattle.streams.specs.Codes.{total}
 use Rattle.streams.specs.Written.{codes_from, pairs_bits}
 use Rattle.compression.specs.Writing.{pad_of}
 use Rattle.compression.proofs.WrittenCalls.{within_granted, bits_small, enough}
-use borrow.Author.Rules.{rules}
 use Rattle.compression.proofs.counting.pairs_fit.Goals.{After-pad_for}
 use Rattle.compression.proofs.counting.pairs_fit.Goals as goal
 

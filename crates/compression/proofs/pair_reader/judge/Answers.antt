@@ -2,7 +2,6 @@
 use mathlib.Core.Path.{◌≡◌, refl, ap, ◌∙◌}
 use Prim.Native.Nat.{ℕ, ◌+◌}
 use native.Mathlib.Omega.{arith}
-use borrow.Author.Rules.{rules}
 use Rattle.streams.specs.Read.{pair}
 use Rattle.streams.specs.Written.{predicted}
 use Rattle.compression.proofs.ReadingSteps.{judged_7, judged_8, judged_9, judged_10, judged_pair}

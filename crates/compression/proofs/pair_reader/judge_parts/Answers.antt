@@ -3,7 +3,6 @@ use mathlib.Core.Path.{◌≡◌, sym, ap, ◌∙◌}
 use mathlib.Core.Bool.{true, false, ◌&&◌}
 use Prim.Native.Nat.{◌^◌}
 use borrow.Author.Tests.{not-true, not-false}
-use borrow.Author.Rules.{rules}
 use lib.Dec.{eqb, leb}
 use lib.ListN.{length}
 use Rattle.books.specs.Told.{told_check}

@@ -1,11 +1,7 @@
 -- `compression::pair_reader::next_pair` meets its contract. Assumes nothing.
 use mathlib.Core.Path.{◌≡◌, refl, sym, ap, ◌∙◌, subst}
-use mathlib.Core.List.{List}
-use Prim.Native.Nat.{ℕ}
 use native.Mathlib.Omega.{arith}
-use borrow.Author.Rules.{rules}
 use Rattle.compression.specs.Reading.{Stands, judged_step, place_of, StepsBy, pair_is}
-use Rattle.compression.specs.declared.step_reader.Steps.{Steps}
 use Rattle.compression.specs.declared.step_reader.Steps.TheVariants.{Taken}
 use Rattle.compression.proofs.ReadingSteps.{stepped_as, cursor_as}
 use Rattle.compression.proofs.pair_reader.next_pair.Goals.{In-Taken}

@@ -5,7 +5,6 @@ use mathlib.Core.Path.{◌≡◌, sym, ap, ◌∙◌, subst}
 use Prim.Native.Nat.{ℕ, ◌+◌, ◌*◌, ◌/◌, ◌%◌, ◌^◌, ◌<◌}
 use lib.Pow.{pow-add, pow_mono, shl_exact}
 use Rattle.compression.proofs.PuttingCodes.{parts_pack, parts_small}
-use borrow.Author.Rules.{rules}
 use Rattle.compression.proofs.pair_writer.join.Goals.{Start}
 use Rattle.compression.proofs.pair_writer.join.Goals as goal
 

@@ -1,7 +1,6 @@
 -- `compression::pair_writer::judge_book` meets its contract. Assumes nothing.
 use borrow.Author.Tests.{eq-eqb, ne_eqb}
 use Rattle.numbers.proofs.RowsTold.{RowsAt, matched_rows, matched_refused}
-use borrow.Author.Rules.{rules}
 use Rattle.compression.proofs.pair_writer.judge_book.Goals.{In_default}
 use Rattle.compression.proofs.pair_writer.judge_book.Goals as goal
 

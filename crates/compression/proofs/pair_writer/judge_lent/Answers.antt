@@ -10,7 +10,6 @@ use Rattle.books.specs.Told.{told_check}
 use Rattle.pair_lists.specs.Lists.{pairs_judged}
 use Rattle.compression.specs.Writing.{book_judged}
 use Rattle.compression.proofs.WrittenCalls.{book_taken, judge_pairs_is, judged_refused, more_judged}
-use borrow.Author.Rules.{rules}
 use Rattle.compression.proofs.pair_writer.judge_lent.Goals.{In-Passes}
 use Rattle.compression.proofs.pair_writer.judge_lent.Goals as goal
 

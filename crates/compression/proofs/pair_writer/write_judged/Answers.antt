@@ -10,7 +10,6 @@ use Rattle.books.proofs.Accepted.{book_accepted}
 use Rattle.streams.specs.Written.{codes_from, pairs_codes, pairs_bits}
 use Rattle.compression.specs.Writing.{list_bits, WrittenBy}
 use Rattle.compression.proofs.WrittenCalls.{bits_small, enough, too_little, last_refused, last_written}
-use borrow.Author.Rules.{rules}
 use Rattle.compression.proofs.pair_writer.write_judged.Goals.{Else-not-pairs_fit}
 use Rattle.compression.proofs.pair_writer.write_judged.Goals as goal
 

@@ -1,8 +1,6 @@
 -- `compression::reader::take_row_step` meets its contract. Assumes nothing.
 use mathlib.Core.Path.{◌≡◌, ap, subst}
-use mathlib.Core.List.{List}
 use Prim.Native.Nat.{ℕ, ◌+◌, ◌^◌}
-use borrow.Author.Rules.{rules}
 use Rattle.streams.specs.Stream.{number, word_bits}
 use Rattle.streams.specs.Looks.{Looked, field_at, zeros_at}
 use Rattle.compression.specs.Reading.{place_of, TakenBy}

@@ -1,14 +1,12 @@
 -- `compression::reader::take_zeros` meets its contract. Assumes nothing.
-use mathlib.Core.List.{List}
 use mathlib.Core.Path.{refl, ap, ◌∙◌, subst}
-use Prim.Native.Nat.{ℕ, ◌+◌, ◌-◌, ◌^◌, ◌≤◌}
+use Prim.Native.Nat.{ℕ, ◌+◌, ◌^◌, ◌≤◌}
 use native.Mathlib.Omega.{arith}
-use borrow.Author.Rules.{rules}
-use Rattle.streams.specs.Stream.{number, word_bits}
+use Rattle.streams.specs.Stream.{number}
 use Rattle.compression.specs.Reading.{place_of, SeenBy}
 use Rattle.compression.specs.declared.reader.Seen.TheVariants.{Bits}
 use Rattle.streams.proofs.Stream.{bits_at_lt}
-use Rattle.compression.proofs.ZerosLooks.{ZerosHead, zeros_start, zeros_cut, zeros_found, zeros_turn}
+use Rattle.compression.proofs.ZerosLooks.{zeros_start, zeros_cut, zeros_found, zeros_turn}
 use Rattle.compression.proofs.reader.take_zeros.Goals.{In-Bits}
 use Rattle.compression.proofs.reader.take_zeros.Goals as goal
 

@@ -1,8 +1,6 @@
 -- `compression::step_reader::careful_steps` meets its contract. Assumes nothing.
 use mathlib.Core.Path.{◌≡◌, subst}
-use mathlib.Core.List.{List}
-use Prim.Native.Nat.{ℕ, ◌^◌}
-use borrow.Author.Rules.{rules}
+use Prim.Native.Nat.{◌^◌}
 use Rattle.streams.specs.Stream.{number, word_bits}
 use Rattle.streams.specs.Looks.{Looked, row_step_at}
 use Rattle.compression.specs.Reading.{place_of, TakenBy, code_is}

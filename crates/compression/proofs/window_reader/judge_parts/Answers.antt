@@ -3,7 +3,6 @@ use mathlib.Core.Path.{◌≡◌, refl, sym, ◌∙◌}
 use mathlib.Core.Bool.{true, false, ◌&&◌}
 use Prim.Native.Nat.{◌^◌}
 use borrow.Author.Tests.{not-true, not-false, eq-eqb, ne_eqb}
-use borrow.Author.Rules.{rules}
 use lib.Dec.{eqb, leb}
 use lib.ListN.{length}
 use Rattle.compression.proofs.ReadingCalls.{window_parts}

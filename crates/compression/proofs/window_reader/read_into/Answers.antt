@@ -1,14 +1,10 @@
 -- `compression::window_reader::read_into` meets its contract. Assumes nothing.
 use mathlib.Core.Path.{subst}
-use Prim.Native.Nat.{◌-◌}
 use native.Mathlib.Omega.{arith}
-use borrow.Author.Rules.{rules}
-use lib.ListN.{length}
-use Rattle.streams.specs.Looks.{Looked}
 use Rattle.compression.specs.Reading.{place_of, TakenBy, code_is}
 use Rattle.compression.specs.declared.reader.Taken.TheVariants.{Value}
 use Rattle.compression.proofs.ReaderBuffer.{begin_stands}
-use Rattle.compression.proofs.ReadingWindow.{WindowHead, window_start, window_turn, window_cut, window_end}
+use Rattle.compression.proofs.ReadingWindow.{window_start, window_turn, window_cut, window_end}
 use Rattle.compression.proofs.window_reader.read_into.Goals.{In-Value}
 use Rattle.compression.proofs.window_reader.read_into.Goals as goal
 

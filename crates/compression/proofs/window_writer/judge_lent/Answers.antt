@@ -1,7 +1,6 @@
 -- `compression::window_writer::judge_lent` meets its contract. Assumes nothing.
 use borrow.Author.Tests.{eq-eqb, ne_eqb}
 use Rattle.numbers.proofs.RowsTold.{RowsAt, matched_rows, matched_refused}
-use borrow.Author.Rules.{rules}
 use Rattle.compression.proofs.window_writer.judge_lent.Goals.{In-Rows}
 use Rattle.compression.proofs.window_writer.judge_lent.Goals as goal
 

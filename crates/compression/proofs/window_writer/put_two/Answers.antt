@@ -6,7 +6,6 @@ use lib.Pow.{shl_exact, pow_mono}
 use Rattle.compression.specs.Writing.{PutBy, entry_code}
 use Rattle.compression.proofs.PuttingCodes.{puts_two, total_two}
 use Rattle.compression.proofs.PuttingWindow.{two_small}
-use borrow.Author.Rules.{rules}
 use Rattle.compression.proofs.window_writer.put_two.Goals.{Start}
 use Rattle.compression.proofs.window_writer.put_two.Goals as goal
 

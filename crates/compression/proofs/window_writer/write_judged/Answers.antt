@@ -7,7 +7,6 @@ use Rattle.refusals.specs.Units.{words_for}
 use Rattle.streams.specs.Written.{window_codes, window_bits}
 use Rattle.compression.proofs.CountingBits.{window_most}
 use Rattle.compression.proofs.WrittenCalls.{enough, too_little, last_refused, last_written}
-use borrow.Author.Rules.{rules}
 use Rattle.compression.proofs.window_writer.write_judged.Goals.{Else-not-window_fits}
 use Rattle.compression.proofs.window_writer.write_judged.Goals as goal
 

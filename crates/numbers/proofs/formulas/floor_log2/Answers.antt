@@ -1,10 +1,10 @@
 -- `numbers::formulas::floor_log2` meets its contract. Assumes nothing.
 use mathlib.Core.Path.{◌≡◌}
-use Prim.Native.Nat.{suc, ◌-◌}
+use Prim.Native.Nat.{suc}
 use native.Mathlib.Omega.{arith}
 use lib.Pow.{pow_pos}
 use Rattle.numbers.specs.Numbers.{floor_log2}
-use Rattle.numbers.proofs.Logs.{Doubled, doubled_start, doubled_turn, doubled_most, doubled_met, doubled_past, log_most}
+use Rattle.numbers.proofs.Logs.{doubled_start, doubled_turn, doubled_most, doubled_met, doubled_past, log_most}
 use Rattle.numbers.proofs.formulas.floor_log2.Goals.{Else-power-quotient}
 use Rattle.numbers.proofs.formulas.floor_log2.Goals as goal
 

@@ -2,7 +2,6 @@
 use Prim.Native.Nat.{◌+◌, ◌*◌, ◌≤◌}
 use native.Mathlib.Nat.{mul-le-mul}
 use native.Mathlib.Omega.{arith}
-use borrow.Author.Rules.{rules}
 use borrow.Author.Tests.{eq-eqb, ne_eqb}
 use Rattle.numbers.specs.Numbers.{most_bits_at}
 use Rattle.numbers.proofs.formulas.most_bits_at.Goals.{After-base_bits_at}

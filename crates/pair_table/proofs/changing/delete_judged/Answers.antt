@@ -1,8 +1,7 @@
 -- `pair_table::changing::delete_judged` meets its contract. Assumes nothing.
 use mathlib.Core.Path.{refl, sym, ◌∙◌}
-use Prim.Native.Nat.{◌-◌, ◌≤◌}
+use Prim.Native.Nat.{◌≤◌}
 use native.Mathlib.Omega.{arith}
-use borrow.Author.Rules.{rules}
 use Rattle.pair_table.proofs.Inserting.{wiped}
 use Rattle.pair_table.proofs.Deleting.{some_item, out_lawful, delete_done, delete_missing}
 use Rattle.pair_table.proofs.changing.delete_judged.Goals.{Else-region-at}

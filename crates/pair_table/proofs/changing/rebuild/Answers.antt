@@ -1,9 +1,8 @@
 -- `pair_table::changing::rebuild` meets its contract. Assumes nothing.
 use mathlib.Core.Path.{◌≡◌, ap, ◌∙◌}
-use Prim.Native.Nat.{ℕ, ◌-◌}
+use Prim.Native.Nat.{ℕ}
 use native.Mathlib.Omega.{arith}
 use lib.ListN.{replicate}
-use borrow.Author.Rules.{rules}
 use Rattle.tables.specs.Slots.{empty}
 use Rattle.tables.specs.Changes.{rebuilt}
 use Rattle.pair_table.proofs.Rebuilding.{refilled, refilled_fits}

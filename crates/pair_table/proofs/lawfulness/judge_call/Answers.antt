@@ -1,8 +1,6 @@
 -- `pair_table::lawfulness::judge_call` meets its contract. Assumes nothing.
 use mathlib.Core.Path.{◌≡◌, refl, sym, ap, ◌∙◌}
 use mathlib.Core.List.{[]}
-use Prim.Native.Nat.{◌-◌}
-use borrow.Author.Rules.{rules}
 use Rattle.refusals.specs.Outcome.{Outcome, accepted, and_then}
 use Rattle.refusals.proofs.Refusing.{stays}
 use Rattle.tables.specs.Calls.{table_judged, item_judged}

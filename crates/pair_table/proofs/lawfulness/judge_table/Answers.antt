@@ -1,9 +1,7 @@
 -- `pair_table::lawfulness::judge_table` meets its contract. Assumes nothing.
 use mathlib.Core.Path.{◌≡◌, sym, ◌∙◌}
 use mathlib.Core.Bool.{true, false}
-use Prim.Native.Nat.{◌-◌}
 use lib.ListN.{length}
-use borrow.Author.Rules.{rules}
 use borrow.Author.Tests.{not-true, not-false, eq-eqb, ne_eqb}
 use Rattle.tables.specs.Slots.{lawful}
 use Rattle.tables.specs.Calls.{table_judged}

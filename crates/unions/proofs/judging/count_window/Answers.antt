@@ -1,6 +1,6 @@
 -- `unions::judging::count_window` meets its contract. Assumes nothing.
 use mathlib.Core.Path.{◌≡◌, ap, ap₂, sym, ◌∙◌}
-use Prim.Native.Nat.{ℕ, ◌+◌, ◌*◌, ◌-◌, ◌%◌, ◌≤◌}
+use Prim.Native.Nat.{ℕ, ◌+◌, ◌≤◌}
 use native.Mathlib.Omega.{arith}
 use lib.Count.{ones}
 use lib.ListN.{length, get_or}

@@ -11,7 +11,6 @@ use Rattle.matrices.specs.Source.{held}
 use Rattle.unions.proofs.EightBytes.{eights}
 use Rattle.unions.proofs.HeldCounted.{held_reserved, held_count}
 use Rattle.unions.proofs.JudgedSteps.{held_late, held_wrong, held_right}
-use borrow.Author.Rules.{rules}
 use Rattle.unions.proofs.judging.judge_held.Goals.{After-count_below, Else-late_bit}
 use Rattle.unions.proofs.judging.judge_held.Goals as goal
 

@@ -8,12 +8,11 @@ use Rattle.laws.specs.Choose.{choose}
 use Rattle.refusals.specs.Outcome.{accepted}
 use Rattle.pair_lists.specs.Lists.{pairs_judged}
 use Rattle.pair_lists.specs.Told.{told_pairs}
-use Rattle.matrices.specs.Matrix.{matrix_of, reserved, coupons}
+use Rattle.matrices.specs.Matrix.{matrix_of, reserved}
 use Rattle.matrices.specs.Source.{held, has_window}
 use Rattle.matrices.proofs.LateReserved.{late_none}
 use Rattle.unions.proofs.HeldCounted.{listed_count}
 use Rattle.unions.proofs.JudgedSteps.{pairs_told, source_refused, source_wide, source_listed, held_wrong, held_right}
-use borrow.Author.Rules.{rules}
 use Rattle.unions.proofs.judging.judge_source.Goals.{Else-shape, In-Lawful}
 use Rattle.unions.proofs.judging.judge_source.Goals as goal
 

@@ -5,7 +5,6 @@ use Rattle.refusals.specs.Outcome.{accepted}
 use Rattle.matrices.specs.Source.{window_judged, columns_judged}
 use Rattle.unions.specs.Told.{told_judged}
 use Rattle.unions.proofs.JudgedSteps.{first_refuses, second_refuses, both_accept}
-use borrow.Author.Rules.{rules}
 use Rattle.unions.proofs.judging.judge_wide.Goals.{In-Lawful, In-Lawful-judge_columns}
 use Rattle.unions.proofs.judging.judge_wide.Goals as goal
 

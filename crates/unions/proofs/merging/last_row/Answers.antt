@@ -4,7 +4,6 @@ use Prim.Native.Nat.{◌*◌, ◌%◌, ◌^◌, ◌≤◌}
 use native.Mathlib.Omega.{arith}
 use lib.Pow.{pow_pos, pow_mono}
 use Rattle.laws.proofs.Shifts.{one_shl}
-use borrow.Author.Rules.{rules}
 use Rattle.unions.proofs.merging.last_row.Goals.{Start}
 use Rattle.unions.proofs.merging.last_row.Goals as goal
 

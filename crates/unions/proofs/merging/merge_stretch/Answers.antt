@@ -1,5 +1,4 @@
 -- `unions::merging::merge_stretch` meets its contract. Assumes nothing.
-use borrow.Author.Rules.{rules}
 use mathlib.Core.Path.{◌≡◌, sym, ap, ◌∙◌, subst}
 use mathlib.Core.Bool.{◌||◌}
 use mathlib.Core.List.{List}

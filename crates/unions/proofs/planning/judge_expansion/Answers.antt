@@ -11,7 +11,6 @@ use Rattle.unions.specs.Steps.{PlannedBy, ShapeOf, lent_judged}
 use Rattle.unions.specs.Told.{told_judged}
 use Rattle.unions.proofs.Answered.{through}
 use Rattle.unions.proofs.PlanSteps.{lent_accepted}
-use borrow.Author.Rules.{rules}
 use Rattle.unions.proofs.planning.judge_expansion.Goals.{In-Take}
 use Rattle.unions.proofs.planning.judge_expansion.Goals as goal
 

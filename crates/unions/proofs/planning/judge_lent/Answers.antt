@@ -9,7 +9,6 @@ use Rattle.numbers.proofs.RowsTold.{RowsAt, matched_rows, rows_refused}
 use Rattle.numbers.specs.Told.{told_rows}
 use Rattle.unions.specs.Steps.{PlannedBy, ShapeOf, shape_judged}
 use Rattle.unions.proofs.PlanSteps.{lent_outside, lent_shape, lent_words, lent_bytes, lent_passed}
-use borrow.Author.Rules.{rules}
 use Rattle.unions.proofs.planning.judge_lent.Goals.{In-Rows, In-Take}
 use Rattle.unions.proofs.planning.judge_lent.Goals as goal
 

@@ -6,13 +6,12 @@ use Prim.Native.Nat.{◌^◌}
 use borrow.Author.Tests.{not-true, not-false}
 use lib.ListN.{length}
 use Rattle.laws.specs.Choose.{choose}
-use Rattle.refusals.specs.Outcome.{Outcome, accepted}
+use Rattle.refusals.specs.Outcome.{accepted}
 use Rattle.matrices.specs.Calls.{merge_judged}
 use Rattle.unions.specs.Steps.{PlannedBy, ShapeOf, lent_judged}
 use Rattle.unions.specs.Told.{told_judged}
 use Rattle.unions.proofs.Answered.{through}
 use Rattle.unions.proofs.PlanSteps.{Lent, lent_accepted, merge_chain, merge_unlawful, merge_lawful}
-use borrow.Author.Rules.{rules}
 use Rattle.unions.proofs.planning.judge_merge.Goals.{After-judge_seeds, In-Take}
 use Rattle.unions.proofs.planning.judge_merge.Goals as goal
 

@@ -8,7 +8,6 @@ use Rattle.refusals.specs.Outcome.{Outcome, accepted, refused, and_then}
 use Rattle.matrices.specs.Source.{source_judged}
 use Rattle.unions.specs.Told.{told_judged}
 use Rattle.unions.proofs.Answered.{through}
-use borrow.Author.Rules.{rules}
 use Rattle.unions.proofs.planning.judge_seeds.Goals.{In-Lawful}
 use Rattle.unions.proofs.planning.judge_seeds.Goals as goal
 

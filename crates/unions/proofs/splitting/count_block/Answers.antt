@@ -1,13 +1,12 @@
 -- `unions::splitting::count_block` meets its contract. Assumes nothing.
 use mathlib.Core.Path.{◌≡◌, sym, ap, ap₂, ◌∙◌, subst}
-use Prim.Native.Nat.{ℕ, ◌+◌, ◌-◌, ◌^◌, ◌≤◌, ◌<◌}
+use Prim.Native.Nat.{ℕ, ◌+◌, ◌^◌, ◌≤◌, ◌<◌}
 use native.Mathlib.Omega.{arith}
 use lib.Count.{ones, ones-le}
 use lib.ListN.{length, get_or}
 use Rattle.matrices.proofs.FirstColumn.{surprise_lt}
 use Rattle.unions.specs.Steps.{pairs_from}
 use Rattle.unions.proofs.Blocks.{from_none, from_next, from_few}
-use borrow.Author.Rules.{rules}
 use Rattle.unions.proofs.splitting.count_block.Goals.{After-surprise_word}
 use Rattle.unions.proofs.splitting.count_block.Goals as goal
 

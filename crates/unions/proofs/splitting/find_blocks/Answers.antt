@@ -1,11 +1,10 @@
 -- `unions::splitting::find_blocks` meets its contract. Assumes nothing.
 use mathlib.Core.Path.{◌≡◌, sym, ◌∙◌, subst}
-use Prim.Native.Nat.{ℕ, ◌+◌, ◌-◌, ◌%◌, ◌≤◌, ◌<◌}
+use Prim.Native.Nat.{ℕ, ◌+◌, ◌≤◌, ◌<◌}
 use native.Mathlib.Omega.{arith}
-use lib.ListN.{length, set, length-set}
+use lib.ListN.{set, length-set}
 use Rattle.unions.specs.Steps.{Found}
 use Rattle.unions.proofs.Blocks.{found_start, found_turn}
-use borrow.Author.Rules.{rules}
 use Rattle.unions.proofs.splitting.find_blocks.Goals.{In-loop-r}
 use Rattle.unions.proofs.splitting.find_blocks.Goals as goal
 

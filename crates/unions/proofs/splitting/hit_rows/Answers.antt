@@ -2,7 +2,7 @@
 use mathlib.Core.Path.{◌≡◌, sym, ap, ap₂, ◌∙◌}
 use mathlib.Core.Bool.{Bool, not}
 use mathlib.Core.List.{List}
-use Prim.Native.Nat.{ℕ, ◌+◌, ◌-◌, ◌*◌, ◌%◌, ◌^◌, ◌≤◌}
+use Prim.Native.Nat.{ℕ, ◌+◌, ◌*◌, ◌%◌, ◌^◌, ◌≤◌}
 use native.Mathlib.Nat.{mul-le-mul_right}
 use native.Mathlib.Omega.{arith}
 use lib.Dec.{eqb}
@@ -13,7 +13,6 @@ use Rattle.laws.specs.Columns.{word_of}
 use Rattle.laws.proofs.Words.{word_of_zero, word_of_more, word_of_lt}
 use Rattle.matrices.specs.Parts.{surprise_word}
 use Rattle.unions.specs.declared.splitting.Cut.{Cut}
-use borrow.Author.Rules.{rules}
 use Rattle.unions.proofs.splitting.hit_rows.Goals.{After-one_if}
 use Rattle.unions.proofs.splitting.hit_rows.Goals as goal
 

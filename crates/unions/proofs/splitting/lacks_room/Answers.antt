@@ -10,7 +10,6 @@ use lib.ListN.{length}
 use Rattle.matrices.specs.Parts.{surprise_pairs}
 use Rattle.matrices.proofs.SplitMost.{surprises_most}
 use Rattle.matrices.proofs.Undone.{coupons_most}
-use borrow.Author.Rules.{rules}
 use Rattle.unions.proofs.splitting.lacks_room.Goals.{Start}
 use Rattle.unions.proofs.splitting.lacks_room.Goals as goal
 

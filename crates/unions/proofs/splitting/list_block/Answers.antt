@@ -10,7 +10,6 @@ use Rattle.laws.proofs.Shifts.{one_shl}
 use Rattle.matrices.specs.Shapes.{row_pairs}
 use Rattle.matrices.proofs.Listed.{row_first}
 use Rattle.unions.proofs.Blocks.{HitsListed, lowest_lt, hits_start, hits_room, hits_turn, hits_end}
-use borrow.Author.Rules.{rules}
 use Rattle.unions.proofs.splitting.list_block.Goals.{In-loop-rest}
 use Rattle.unions.proofs.splitting.list_block.Goals as goal
 

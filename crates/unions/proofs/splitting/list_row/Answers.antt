@@ -1,14 +1,12 @@
 -- `unions::splitting::list_row` meets its contract. Assumes nothing.
-use borrow.Author.Rules.{rules}
 use mathlib.Core.Path.{◌≡◌, sym, subst}
-use Prim.Native.Nat.{ℕ, ◌+◌, ◌*◌, ◌-◌, ◌<◌}
+use Prim.Native.Nat.{ℕ, ◌+◌, ◌*◌, ◌<◌}
 use native.Mathlib.Omega.{arith}
 use lib.Bits.{bit_xor}
 use lib.Count.{count_trailing_zeros}
 use lib.ListN.{length, set}
 use Rattle.laws.proofs.Shifts.{one_shl}
 use Rattle.laws.proofs.Trailing.{trailing_lt}
-use Rattle.matrices.specs.Shapes.{row_pairs}
 use Rattle.matrices.proofs.ListTurn.{Listed, list_start, list_room, list_less, list_turn, list_end, list_length}
 use Rattle.unions.proofs.splitting.list_row.Goals.{At-loop-rest, In-loop-rest}
 use Rattle.unions.proofs.splitting.list_row.Goals as goal

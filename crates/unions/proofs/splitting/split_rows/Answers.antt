@@ -13,7 +13,6 @@ use Rattle.unions.proofs.Answered.{kept_as}
 use Rattle.unions.proofs.EightBytes.{eights}
 use Rattle.unions.proofs.ShapeTold.{shape_never}
 use Rattle.unions.proofs.SplitTold.{room_short, room_enough, count_fits}
-use borrow.Author.Rules.{rules}
 use Rattle.unions.proofs.splitting.split_rows.Goals.{In-Take, Start}
 use Rattle.unions.proofs.splitting.split_rows.Goals as goal
 

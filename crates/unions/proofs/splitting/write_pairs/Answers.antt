@@ -1,7 +1,7 @@
 -- `unions::splitting::write_pairs` meets its contract. Assumes nothing.
 use mathlib.Core.Path.{◌≡◌, refl, sym, ap, ◌∙◌, subst}
 use mathlib.Core.List.{List, [], ◌++◌}
-use Prim.Native.Nat.{ℕ, ◌-◌, ◌%◌, ◌≤◌}
+use Prim.Native.Nat.{ℕ}
 use native.Mathlib.Omega.{arith}
 use lib.Bits.{or_zero_l}
 use lib.Count.{count_trailing_zeros}
