@@ -1,5 +1,5 @@
 /*
- * Hostile input at the C boundary: every exported call, with lengths and contents of a seeded generator's choosing.
+ * Hostile input at the C boundary: every exported call that takes something, with lengths and contents of a seeded generator's choosing.
  *
  *     fuzz SEED seconds N      for so long
  *     fuzz SEED calls N        up to so many calls, the same in every run

@@ -27,7 +27,7 @@
  * length and content is judged, and what a call only writes may hold anything before.
  *
  * The calls keep nothing between them and reserve no memory: the archive has no writable data, and asks the linker for
- * nothing but the C library's memory functions (hosts/run looks this up; for x86-64 and AArch64 it is memset alone). So
+ * nothing but the C library's memory functions (hosts/run looks this up; for x86-64 it is memset alone). So
  * calls may run in several threads at once, each on memory of its own; memory that they only read they may share.
  *
  * WORDS

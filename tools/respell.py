@@ -1,6 +1,6 @@
 #!/usr/bin/env python3
 """Spells the repository's own definitions and lemmas in snake case: types and modules keep their capital letters, every other name that is declared in specs/ or in a lemma
-file of proofs/ loses its dashes and inner capitals. Run once, at the top, right after port.py; a second run finds nothing to do.
+file of proofs/ loses its dashes and inner capitals. Run once, at the top, right after port.py: in a repository whose proofs are turned already it does nothing.
 
 usage: python3 tools/respell.py [--check]
 
@@ -70,6 +70,9 @@ def imports(text):
 def main():
     check = "--check" in sys.argv
     crates = sorted(os.listdir("crates"))
+    if glob.glob("crates/*/proofs/**/Answers.antt", recursive=True):
+        print("respell: the proofs are turned already: nothing to do")
+        return
     antt = [p for c in crates for p in glob.glob(f"crates/{c}/specs/**/*.antt", recursive=True) + glob.glob(f"crates/{c}/proofs/**/*.antt", recursive=True)]
     texts = {p: open(p, encoding="utf-8").read() for p in antt}
     own = set()

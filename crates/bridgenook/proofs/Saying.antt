@@ -17,7 +17,7 @@ bare n = n.1 ∷ n.2 ∷ 0 ∷ 0 ∷ 0 ∷ 0 ∷ 0 ∷ 0 ∷ []
 says_by : (o : Outcome) → Refuses o → Says o (numbers_in o).0 (bare (numbers_in o))
 says_by (refused number place) by_place = (refl, refl)
 says_by (stopped number place bit) by_bit = (refl, refl)
-says_by (accepted _) x'' = elim x'' [ ]
+says_by (accepted _) never = elim never [ ]
 
 pub says_refusal : (why : Refusal) (n : Numbered) → n ≡ numbers_in (told why) → Says (told why) n.0 (bare n)
 says_refusal why n e = subst (λ (m : Numbered). Says (told why) m.0 (bare m)) (sym e) (says_by (told why) (refuses why))

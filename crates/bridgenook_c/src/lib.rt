@@ -1,5 +1,5 @@
 // The static library: the public calls for C and Rust, under the prefix `bridgenook_`. Each is the call of that name of `bridgenook`, with its clauses. The result is 0 if the call is
-// accepted, else document 01's number; `answer` gets the place, the bit position, then the values of an accepted call, and zeros.
+// accepted, else document 01's number; `answer` gets the place, the bit position, then the values of an accepted call, and zeros. `bridgenook_version` alone takes nothing.
 #![tactic(auto)]
 
 pub mod book_calls;

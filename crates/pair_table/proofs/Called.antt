@@ -2,7 +2,7 @@
 use mathlib.Core.Path.{◌≡◌, refl, sym, ap, ◌∙◌}
 use mathlib.Core.List.{List}
 use Prim.Native.Nat.{ℕ}
-use Rattle.refusals.specs.Outcome.{Outcome, refused, stopped, and_then}
+use Rattle.refusals.specs.Outcome.{Outcome, refused, stopped, and_then, accepted}
 use Rattle.refusals.specs.Told.{told}
 use Rattle.refusals.specs.declared.Refusal.{Refusal}
 use Rattle.refusals.proofs.Refusing.{Refuses, by_place, by_bit, refuses, kept, stays}
@@ -16,7 +16,7 @@ use Rattle.pair_table.proofs.Judging.{then_assoc}
 unchanged_by : (o : Outcome) → Refuses o → (after before : List ℕ) → if_changed o after before ≡ before
 unchanged_by (refused number place) by_place after before = refl
 unchanged_by (stopped number place bit) by_bit after before = refl
-unchanged_by (Rattle.refusals.specs.Outcome.accepted _) x'' after before = elim x'' [ ]
+unchanged_by (accepted _) never after before = elim never [ ]
 
 -- a refusal leaves what was lent as it was
 pub unchanged_if_refused : (why : Refusal) (after before : List ℕ) → if_changed (told why) after before ≡ before

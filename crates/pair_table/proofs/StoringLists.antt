@@ -10,7 +10,7 @@ use lib.Dec.{eqb, leb, ltb}
 use borrow.Author.Tests.{ltb-false, leb-true, leb-false}
 use Rattle.laws.specs.Choose.{choose}
 use Rattle.laws.proofs.Truths.{neither}
-use Rattle.refusals.specs.Outcome.{Outcome, accepted, refused, and_then}
+use Rattle.refusals.specs.Outcome.{Outcome, accepted, refused, and_then, stopped}
 use Rattle.refusals.specs.Told.{told}
 use Rattle.refusals.specs.declared.Refusal.{Refusal}
 use Rattle.refusals.proofs.Only.{never_accepted}
@@ -76,7 +76,7 @@ test_leaves false number place more d l = l
 then_leaves : (a b : Outcome) → Leaves a → Leaves b → Leaves (and_then a b)
 then_leaves (accepted values) b passes m = m
 then_leaves (refused number place) b (refuses d) m = refuses d
-then_leaves (Rattle.refusals.specs.Outcome.stopped number place bit) b x'' m = elim x'' [ ]
+then_leaves (stopped _ _ _) b never m = elim never [ ]
 
 item_leaves : (v x place : ℕ) → Leaves (item_judged v x place)
 unfolding item_judged
@@ -99,7 +99,7 @@ growth_leaves s lg v = test_leaves (ltb 26 lg || leb v lg) 13 0 _ refl (test_lea
 left_by : (o : Outcome) (why : Refusal) → told why ≡ o → Leaves o → (built twice before : List ℕ) → if_built o built twice before ≡ before
 left_by (accepted values) why e passes built twice before = absurd (never_accepted why values (sym e))
 left_by (refused number place) why e (refuses d) built twice before = simp d
-left_by (Rattle.refusals.specs.Outcome.stopped number place bit) why e x'' built twice before = elim x'' [ ]
+left_by (stopped _ _ _) why e never built twice before = elim never [ ]
 
 -- a refusal by such a judgement, whatever was to come after it
 pub built_refused : (whole judged more : Outcome) (v : ℕ) (list s e : List ℕ) (why : Refusal) → whole ≡ and_then judged more → told why ≡ judged → Leaves judged → MadeBy whole v list s e s e (table.Refused why)

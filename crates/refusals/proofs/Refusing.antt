@@ -23,7 +23,7 @@ pub refuses : (r : Refusal) → Refuses (told r)
 refuses r = refuses_by r (told r) refl
 
 kept_by {ℓ} : {A : Type ℓ} (o : Outcome) → Refuses o → (after before : A) → if_accepted o after before ≡ before
-kept_by {A = A} (accepted _) x after before = elim x [ ]
+kept_by {A = A} (accepted _) never after before = elim never [ ]
 kept_by (refused number place) by_place after before = refl
 kept_by (stopped number place bit) by_bit after before = refl
 
@@ -34,7 +34,7 @@ kept r after before = kept_by (told r) (refuses r) after before
 -- ---- one judgement after another
 
 stays_by : (first more : Outcome) → Refuses first → and_then first more ≡ first
-stays_by (accepted _) more x = elim x [ ]
+stays_by (accepted _) more never = elim never [ ]
 stays_by (refused number place) more by_place = refl
 stays_by (stopped number place bit) more by_bit = refl
 

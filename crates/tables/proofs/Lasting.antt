@@ -3,7 +3,7 @@ use mathlib.Core.Path.{◌≡◌, sym, ap, ◌∙◌}
 use mathlib.Core.List.{List, []}
 use Prim.Native.Nat.{ℕ, ◌+◌, ◌-◌, ◌^◌, ◌≤◌, ◌<◌}
 use lib.ListN.{length, get_or, length-replicate}
-use Rattle.refusals.specs.Outcome.{Outcome, accepted, refused, if_accepted}
+use Rattle.refusals.specs.Outcome.{Outcome, accepted, refused, if_accepted, stopped}
 use Rattle.tables.specs.Slots.{empty}
 use Rattle.tables.specs.Changes.{blank, fill, inserted, deleted, halved_lg, build_lg}
 use Rattle.tables.specs.Calls.{record_of, if_changed, table_judged, insert_of, delete_of, build_of, if_built, build_region, build_spare, new_of, clear_of, blank_if}
@@ -31,7 +31,7 @@ insert_lasts s e lg v c x long l (accepted _) (kept w new f) =
     is_judged (inserted s lg v c x) (blank e) lg v (c + 1) (length_inserted s lg v c x l w new ∙ long ∙ sym (length_blank e)) (kept_lawful s lg v c x l w new f)
 insert_lasts s e lg v c x long l (accepted _) (grown w new f a b d) =
     is_judged (inserted s lg v c x) (blank e) (lg + 1) v (c + 1) (length_inserted s lg v c x l w new ∙ long ∙ sym (length_blank e)) (grown_lawful s lg v c x l w new f a b d)
-insert_lasts s e lg v c x long l (Rattle.refusals.specs.Outcome.stopped number place bit) x'' = elim x'' [ ]
+insert_lasts s e lg v c x long l (stopped _ _ _) never = elim never [ ]
 
 -- a delete
 delete_lasts : (s e : List ℕ) (lg v c x : ℕ) → length s ≡ length e → Lawful s lg v c → (o : Outcome) → DeleteSays s lg v c x o
@@ -40,7 +40,7 @@ delete_lasts s e lg v c x long l (refused number place) refuses = is_judged s e 
 delete_lasts s e lg v c x long l (accepted _) (missing w m) = is_judged s e lg v c long l
 delete_lasts s e lg v c x long l (accepted _) (taken w m) =
     is_judged (deleted s lg v c x) (blank e) (halved_lg lg lg (c - 1)) v (c - 1) (length_deleted s lg v c x l w m ∙ long ∙ sym (length_blank e)) (deleted_lawful s lg v c x l w m)
-delete_lasts s e lg v c x long l (Rattle.refusals.specs.Outcome.stopped number place bit) x'' = elim x'' [ ]
+delete_lasts s e lg v c x long l (stopped _ _ _) never = elim never [ ]
 
 -- a clear
 pub clear_is : (s e : List ℕ) (lg v c : ℕ) → length s ≡ length e → Lawful s lg v c → clear_of s e lg v c ≡ record_of lg v 0

@@ -11,7 +11,7 @@ use borrow.Author.Tests.{eq-eqb, ne_eqb, eqb-true, eqb-false, not-true}
 use Rattle.laws.specs.Below.{one as told, sum_below}
 use Rattle.laws.proofs.Truths.{never_true, both_true, and_left, and_right, and_both, or_true, or_left, or_right}
 use Rattle.laws.proofs.Sums.{sum_same}
-use Rattle.refusals.specs.Outcome.{Outcome, accepted, refused, if_accepted}
+use Rattle.refusals.specs.Outcome.{Outcome, accepted, refused, if_accepted, stopped}
 use Rattle.tables.specs.Slots.{empty, holds}
 use Rattle.tables.specs.Changes.{blank, fill, build_lg, inserted, deleted, halved_lg}
 use Rattle.tables.specs.Calls.{record_of, if_changed, insert_of, delete_of, clear_of, blank_if, new_of, build_of, if_built, build_region}
@@ -67,7 +67,7 @@ insert_plain s lg v c x l (accepted _) (there w m) a =
 insert_plain s lg v c x l (accepted _) (kept w new f) a = (sym (ap not (not_in s (2 ^ lg) x new)), added_set s (2 ^ lg) (inserted s lg v c x) (2 ^ lg) x (kept_set s lg v c x l w new f))
 insert_plain s lg v c x l (accepted _) (grown w new f p q r) a =
     (sym (ap not (not_in s (2 ^ lg) x new)), added_set s (2 ^ lg) (inserted s lg v c x) (2 ^ (lg + 1)) x (grown_set s lg v c x l w new f p q r))
-insert_plain s lg v c x l (Rattle.refusals.specs.Outcome.stopped number place bit) x3 a = elim x3 [ ]
+insert_plain s lg v c x l (stopped _ _ _) never a = elim never [ ]
 
 delete_plain : (s : List ℕ) (lg v c x : ℕ) → Lawful s lg v c → (o : Outcome) → DeleteSays s lg v c x o → is_accepted o ≡ true
     → (eqb (get_or (values_in o) 0 0) 1 ≡ is_in s (2 ^ lg) x) × ((y : ℕ) → is_in (if_changed o (deleted s lg v c x) s) (2 ^ get_or (values_in o) 1 lg) y ≡ (not (eqb y x) && is_in s (2 ^ lg) y))
@@ -76,7 +76,7 @@ delete_plain s lg v c x l (accepted _) (missing w new) a =
     (sym (not_in s (2 ^ lg) x new), taken_set s (2 ^ lg) s (2 ^ lg) x (record { gone = new; keeps = λ y m d. m; only = λ y m. m }))
 delete_plain s lg v c x l (accepted _) (taken w m) a =
     (sym (member_in s (2 ^ lg) x m), taken_set s (2 ^ lg) (deleted s lg v c x) (2 ^ halved_lg lg lg (c - 1)) x (deleted_set s lg v c x l w m))
-delete_plain s lg v c x l (Rattle.refusals.specs.Outcome.stopped number place bit) x3 a = elim x3 [ ]
+delete_plain s lg v c x l (stopped _ _ _) never a = elim never [ ]
 
 clear_plain : (s : List ℕ) (lg v c : ℕ) → Lawful s lg v c → (o : Outcome) → o ≡ record_of lg v 0 → (y : ℕ) → is_in (if_accepted o (blank s) s) (2 ^ get_or (values_in o) 0 lg) y ≡ false
 clear_plain s lg v c l o z y = rw z (blank_set s (2 ^ lg) y l.room)
@@ -111,13 +111,13 @@ insert_bits s lg v c x (refused number place) refuses = refl
 insert_bits s lg v c x (accepted _) (there w m) = refl
 insert_bits s lg v c x (accepted _) (kept w new f) = refl
 insert_bits s lg v c x (accepted _) (grown w new f p q r) = refl
-insert_bits s lg v c x (Rattle.refusals.specs.Outcome.stopped number place bit) x'' = elim x'' [ ]
+insert_bits s lg v c x (stopped _ _ _) never = elim never [ ]
 
 delete_bits : (s : List ℕ) (lg v c x : ℕ) (o : Outcome) → DeleteSays s lg v c x o → get_or (values_in o) 2 v ≡ v
 delete_bits s lg v c x (refused number place) refuses = refl
 delete_bits s lg v c x (accepted _) (missing w m) = refl
 delete_bits s lg v c x (accepted _) (taken w m) = refl
-delete_bits s lg v c x (Rattle.refusals.specs.Outcome.stopped number place bit) x'' = elim x'' [ ]
+delete_bits s lg v c x (stopped _ _ _) never = elim never [ ]
 
 -- whatever is called
 pub bits_stay : (t : Table) (call : Call) → judged t ≡ accepted [] → (after t call).bits ≡ t.bits

@@ -11,7 +11,7 @@ use borrow.Author.Tests.{eq-eqb, eqb-true, ltb-false, leb-false, not-false}
 use Rattle.laws.specs.Choose.{choose}
 use Rattle.laws.proofs.Truths.{neither}
 use Rattle.laws.proofs.Orders.{same_or_not, le_or_lt}
-use Rattle.refusals.specs.Outcome.{Outcome, accepted, refused, and_then}
+use Rattle.refusals.specs.Outcome.{Outcome, accepted, refused, and_then, stopped}
 use Rattle.refusals.proofs.Refusing.{both_accepted}
 use Rattle.tables.specs.Slots.{empty, holds, sized, lawful}
 use Rattle.tables.specs.Changes.{fits, halved_lg, build_lg}
@@ -79,8 +79,8 @@ can_grow s lg v {values} e = go (growth_judged s lg v) (growth_says s lg v) e
     go : (o : Outcome) → GrowthSays s lg v o → o ≡ accepted values → (lg ≤ 26) × (lg < v) × (2 ^ lg ≤ length s)
     go (refused number place) cannot z = absurd (never z)
     go (accepted []) (can a b d) z = (a, b, d)
-    go (accepted (_ ∷ _)) x7 z = elim x7 [ ]
-    go (Rattle.refusals.specs.Outcome.stopped number place bit) x3 z = elim x3 [ ]
+    go (accepted (_ ∷ _)) never z = elim never [ ]
+    go (stopped _ _ _) never z = elim never [ ]
 
 -- an insert: refused, or the item was there, or it goes without growth, or it must grow and may
 pub data InsertSays (s : List ℕ) (lg v c x : ℕ) : Outcome → Type 0 where
@@ -98,8 +98,8 @@ insert_says s e lg v c x long l = rw (is_judged s e lg v c long l) (item (item_j
     grows : Fine v x → (Member s (2 ^ lg) x → ⊥) → fits (c + 1) lg ≡ false → (o : Outcome) → GrowthSays s (lg + 1) v o → InsertSays s lg v c x (and_then o (changed (lg + 1) v (c + 1)))
     grows w new f (refused number place) cannot = refuses
     grows w new f (accepted []) (can a b d) = grown w new f (omega arith) b d
-    grows w new f (accepted (_ ∷ _)) x6 = elim x6 [ ]
-    grows w new f (Rattle.refusals.specs.Outcome.stopped number place bit) x3 = elim x3 [ ]
+    grows w new f (accepted (_ ∷ _)) never = elim never [ ]
+    grows w new f (stopped _ _ _) never = elim never [ ]
 
     fit : Fine v x → (Member s (2 ^ lg) x → ⊥) → (b : Bool) → fits (c + 1) lg ≡ b
         → InsertSays s lg v c x (choose b (changed lg v (c + 1)) (and_then (growth_judged s (lg + 1) v) (changed (lg + 1) v (c + 1))))
@@ -115,8 +115,8 @@ insert_says s e lg v c x long l = rw (is_judged s e lg v c long l) (item (item_j
         → InsertSays s lg v c x (and_then o (choose (holds s (2 ^ lg) x) unchanged (choose (fits (c + 1) lg) (changed lg v (c + 1)) (and_then (growth_judged s (lg + 1) v) (changed (lg + 1) v (c + 1))))))
     item (refused number place) bad = refuses
     item (accepted []) (good w) = has w (holds s (2 ^ lg) x) refl
-    item (accepted (_ ∷ _)) x6 = elim x6 [ ]
-    item (Rattle.refusals.specs.Outcome.stopped number place bit) x3 = elim x3 [ ]
+    item (accepted (_ ∷ _)) never = elim never [ ]
+    item (stopped _ _ _) never = elim never [ ]
 
 -- a delete: refused, or the item was not there, or it is taken out
 pub data DeleteSays (s : List ℕ) (lg v c x : ℕ) : Outcome → Type 0 where
@@ -136,8 +136,8 @@ delete_says s e lg v c x long l = rw (is_judged s e lg v c long l) (item (item_j
     item : (o : Outcome) → ItemSays v x o → DeleteSays s lg v c x (and_then o (choose (holds s (2 ^ lg) x) (changed (halved_lg lg lg (c - 1)) v (c - 1)) unchanged))
     item (refused number place) bad = refuses
     item (accepted []) (good w) = has w (holds s (2 ^ lg) x) refl
-    item (accepted (_ ∷ _)) x6 = elim x6 [ ]
-    item (Rattle.refusals.specs.Outcome.stopped number place bit) x3 = elim x3 [ ]
+    item (accepted (_ ∷ _)) never = elim never [ ]
+    item (stopped _ _ _) never = elim never [ ]
 
 -- a build that is accepted
 pub record BuildSays (s e : List ℕ) (v : ℕ) (list : List ℕ) : Type 0 where

@@ -5,7 +5,6 @@ use Rattle.laws.proofs.Shifts.{one_shl}
 use Rattle.numbers.specs.Calls.{rows_of}
 use Rattle.numbers.proofs.rows.Goals as goal
 
--- `numbers::rows` meets its contract. Assumes nothing.
 pub returns-then-lg-lt4 : goal.returns-then-lg-lt4
 unfolding rows_of
 returns-then-lg-lt4 c = simp (lt-ltb _ _ c.if-lg-lt4.true)

@@ -7,7 +7,6 @@ use Rattle.laws.proofs.Quotients.{quotient_pos}
 use Rattle.numbers.specs.Numbers.{base_bits_at}
 use Rattle.numbers.proofs.formulas.base_bits_at.Goals as goal
 
--- `numbers::formulas::base_bits_at` meets its contract. Assumes nothing.
 pub returns-then-pairs-eq0 : goal.returns-then-pairs-eq0
 unfolding base_bits_at
 returns-then-pairs-eq0 c = (simp (eq-eqb _ _ c.if-pairs-eq0.true), omega arith)

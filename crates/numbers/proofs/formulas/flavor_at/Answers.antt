@@ -3,7 +3,6 @@ use borrow.Author.Tests.{lt-ltb, le-ltb, eq-eqb, ne_eqb}
 use Rattle.numbers.specs.Numbers.{flavor_at}
 use Rattle.numbers.proofs.formulas.flavor_at.Goals as goal
 
--- `numbers::formulas::flavor_at` meets its contract. Assumes nothing.
 pub returns-then-coupons-eq0 : goal.returns-then-coupons-eq0
 unfolding flavor_at
 returns-then-coupons-eq0 c = simp (eq-eqb _ _ c.if-coupons-eq0.true)

@@ -1,4 +1,4 @@
--- `numbers::formulas::floor_log2` meets its contract. Assumes nothing.
+-- `numbers::formulas::floor_log2` meets its contract: the power is 2^bits, and below twice the quotient. Assumes nothing.
 use mathlib.Core.Path.{◌≡◌}
 use Prim.Native.Nat.{suc}
 use native.Mathlib.Omega.{arith}

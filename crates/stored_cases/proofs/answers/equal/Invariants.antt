@@ -1,4 +1,4 @@
--- `stored_cases::answers::equal`: what its loops keep true, and why they end. Assumes nothing.
+-- `stored_cases::answers::equal` is safe and ends.
 use Prim.Native.Nat.{◌≤◌, ◌-◌}
 use Rattle.stored_cases.proofs.answers.equal.Given as goal
 

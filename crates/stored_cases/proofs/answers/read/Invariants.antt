@@ -1,4 +1,4 @@
--- `stored_cases::answers::read`: what its loops keep true, and why they end. Assumes nothing.
+-- `stored_cases::answers::read` is safe and ends: at most nine numbers are stored.
 use Prim.Native.Nat.{◌≤◌, ◌-◌}
 use Rattle.stored_cases.proofs.answers.read.Given as goal
 

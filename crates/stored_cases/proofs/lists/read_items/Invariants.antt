@@ -1,4 +1,4 @@
--- `stored_cases::lists::read_items`: what its loops keep true, and why they end. Assumes nothing.
+-- `stored_cases::lists::read_items` is safe and ends: each turn passes a comma, or the end.
 use Prim.Native.Nat.{◌≤◌, ◌+◌, ◌-◌}
 use mathlib.Core.Path.{◌≡◌}
 use lib.ListN.{length}

@@ -1,4 +1,4 @@
--- `stored_cases::lists_u16::narrow`: what its loops keep true, and why they end. Assumes nothing.
+-- `stored_cases::lists_u16::narrow` is safe and ends: the test before the loop gives each entry its place.
 use Prim.Native.Nat.{◌≤◌, ◌-◌}
 use mathlib.Core.Path.{◌≡◌}
 use lib.ListN.{length}

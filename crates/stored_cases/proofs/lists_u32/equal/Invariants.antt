@@ -1,4 +1,4 @@
--- `stored_cases::lists_u32::equal`: what its loops keep true, and why they end. Assumes nothing.
+-- `stored_cases::lists_u32::equal` is safe and ends: the test before the loop says that the two are equally long.
 use Prim.Native.Nat.{◌≤◌, ◌-◌}
 use lib.ListN.{length}
 use Rattle.stored_cases.proofs.lists_u32.equal.Given as goal

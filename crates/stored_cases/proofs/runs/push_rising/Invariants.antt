@@ -1,4 +1,4 @@
--- `stored_cases::runs::push_rising`: what its loops keep true, and why they end. Assumes nothing.
+-- `stored_cases::runs::push_rising` is safe and ends: each turn tests that `first + done` is in range, and `push` keeps the length of what it is lent.
 use Prim.Native.Nat.{◌≤◌, ◌-◌}
 use mathlib.Core.Path.{◌≡◌}
 use lib.ListN.{length}

@@ -1,4 +1,4 @@
--- `stored_cases::words::count`: what its loops keep true, and why they end. Assumes nothing.
+-- `stored_cases::words::count` is safe and ends: there are no more spaces than places passed.
 use Prim.Native.Nat.{◌≤◌, ◌-◌}
 use lib.ListN.{length}
 use Rattle.stored_cases.proofs.words.count.Given as goal

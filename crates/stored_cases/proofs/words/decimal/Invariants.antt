@@ -1,4 +1,4 @@
--- `stored_cases::words::decimal`: what its loops keep true, and why they end. Assumes nothing.
+-- `stored_cases::words::decimal` is safe and ends.
 use Prim.Native.Nat.{◌≤◌, ◌-◌}
 use lib.ListN.{length}
 use Rattle.stored_cases.proofs.words.decimal.Given as goal

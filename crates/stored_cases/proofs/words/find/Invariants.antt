@@ -1,4 +1,4 @@
--- `stored_cases::words::find`: what its loops keep true, and why they end. Assumes nothing.
+-- `stored_cases::words::find` is safe, ends, and answers a place up to the length.
 use Prim.Native.Nat.{◌≤◌, ◌-◌}
 use lib.ListN.{length}
 use Rattle.stored_cases.proofs.words.find.Given as goal
