@@ -1,8 +1,8 @@
 -- A lent table, judged by itself: each symbol's entry stands at its codeword, and an entry of few bits repeats where one more bit is set. Assumes nothing.
-use mathlib.Core.Path.{◌≡◌, refl, sym, ap, ◌∙◌, subst}
+use mathlib.Core.Path.{◌≡◌, refl, sym, ap, ap₂, ◌∙◌, subst}
 use mathlib.Core.Logic.{⊎_elim}
 use mathlib.Core.Bool.{Bool, true, false, not, ◌&&◌}
-use mathlib.Core.List.{List}
+use mathlib.Core.List.{List, ◌∷◌}
 use Prim.Native.Nat.{ℕ, zero, suc, ◌+◌, ◌-◌, ◌*◌, ◌%◌, ◌^◌, ◌≤◌, ◌<◌}
 use native.Mathlib.Nat.{mod-eq_of_lt, pow-suc}
 use native.Mathlib.Numerals.{add-one}
@@ -10,8 +10,9 @@ use native.Mathlib.Omega.{arith}
 use borrow.Author.Count.{below_more}
 use borrow.Author.Tests.{ltb-true, lt-ltb, eqb-true, eqb-false, not-true}
 use lib.Dec.{eqb, ltb}
-use lib.ListN.{length, get_or}
+use lib.ListN.{length, get_or, take, drop}
 use lib.Pow.{pow_mono}
+use Rattle.std.proofs.lemmas.List.{get_or-drop, get_or-take, drop-drop}
 use Rattle.laws.specs.Below.{one}
 use Rattle.laws.proofs.Orders.{lt_or_le}
 use Rattle.laws.proofs.Truths.{and_left, and_right, and_both, true_or_false}
@@ -78,6 +79,33 @@ module _ (table : List ℕ) (half limit : ℕ) where
   pub counted_end : (count m : ℕ) → Counted count m → half ≤ m → (t : Bool) → eqb count 0 ≡ t → Decides (Repeats table half limit) t
   counted_end count m c l true e = λ k lk. c.sound (eqb-true count 0 e) k (omega arith)
   counted_end count m c l false e = λ h. eqb-false count 0 e (c.complete (λ k lk. h k (omega (arith, c.within))))
+
+-- m entries of each half are counted, and the rest of each is left
+abbrev pub Halved : (table : List ℕ) (half limit count : ℕ) (first second : List ℕ) → Type 0
+Halved table half limit count first second =
+    (length first ≤ half) × (first ≡ drop (half - length first) (take half table)) × (second ≡ drop (half - length first) (take half (drop half table)))
+    × Counted table half limit count (half - length first)
+
+pub halved_turn : (table : List ℕ) (half limit count more a b : ℕ) (first first' second second' : List ℕ) → first ≡ a ∷ first' → second ≡ b ∷ second'
+    → Halved table half limit count first second → more ≡ one (breaks a b limit) → Halved table half limit (count + more) first' second'
+halved_turn table half limit count more a b first first' second second' p q h e =
+    let m : ℕ = half - length first in
+    let less : length first ≡ suc (length first') = ap length p in
+    let next : half - length first' ≡ m + 1 = omega (arith, h.0, less) in
+    let inside : m + 0 < half = omega (arith, h.0, less) in
+    let at : a ≡ get_or table (m + 0) 0 =
+    ap (λ (l : List ℕ). get_or l 0 0) (sym p ∙ h.1) ∙ get_or-drop m (take half table) 0 0 ∙ get_or-take half table (m + 0) 0 inside in
+    let bt : b ≡ get_or table (half + (m + 0)) 0 =
+    ap (λ (l : List ℕ). get_or l 0 0) (sym q ∙ h.2) ∙ get_or-drop m (take half (drop half table)) 0 0
+    ∙ get_or-take half (drop half table) (m + 0) 0 inside ∙ get_or-drop half table (m + 0) 0 in
+    let same : m + 0 ≡ m = omega arith in
+    let broke : more ≡ one (breaks (get_or table m 0) (get_or table (half + m) 0) limit) =
+    e ∙ ap₂ (λ (x y : ℕ). one (breaks x y limit)) at bt ∙ ap (λ (k : ℕ). one (breaks (get_or table k 0) (get_or table (half + k) 0) limit)) same in (
+      omega (arith, h.0, less),
+      ap (drop 1) (sym p ∙ h.1) ∙ drop-drop 1 m (take half table) ∙ ap (λ (n : ℕ). drop n (take half table)) (sym next),
+      ap (drop 1) (sym q ∙ h.2) ∙ drop-drop 1 m (take half (drop half table)) ∙ ap (λ (n : ℕ). drop n (take half (drop half table))) (sym next),
+      subst (λ (k : ℕ). Counted table half limit (count + more) k) (sym next) (counted_turn table half limit count m more h.3 (omega (arith, h.0, less)) broke),
+    )
 
 -- ---- the levels, one after the other
 

@@ -1,7 +1,7 @@
 -- Marks of few bits go to the numbers of more bits that end in them. Assumes nothing.
 use mathlib.Core.Path.{◌≡◌, refl, sym, ap, ap₂, ◌∙◌, subst}
 use mathlib.Core.Logic.{⊎_elim}
-use mathlib.Core.Bool.{true, ◌||◌}
+use mathlib.Core.Bool.{Bool, true, false, ◌||◌}
 use mathlib.Core.List.{List}
 use Prim.Native.Nat.{ℕ, zero, suc, ◌+◌, ◌-◌, ◌*◌, ◌/◌, ◌%◌, ◌^◌, ◌≤◌, ◌<◌}
 use native.Mathlib.Nat.{mod-eq_of_lt, mod-lt, pow-suc}
@@ -9,16 +9,19 @@ use native.Mathlib.Numerals.{add-one}
 use native.Mathlib.Omega.{arith}
 use borrow.Author.Tests.{lt-ltb}
 use lib.Bits.{bit_or}
-use lib.ListN.{length, get_or, set}
+use lib.ListN.{length, get_or, set, drop}
 use lib.Pow.{pow-add, pow_pos, pow_mono, mod-mod-pow, ones_lt}
 use lib.Seq.{get_or-set_same, get_or-set_other}
+use Rattle.std.proofs.Common.{◌≢◌, MatchBool}
+use Rattle.std.proofs.lemmas.List.{get_or-drop, length-drop}
+use Rattle.std.specs.List.{AllWithin, HoldsAt}
 use Rattle.laws.specs.Columns.{has}
 use Rattle.laws.proofs.Orders.{lt_or_le}
 use Rattle.laws.proofs.Truths.{or_true, or_left, or_right}
 use Rattle.laws.proofs.Columns.{has_or, has_ones, word_ext}
 use Rattle.laws.proofs.Powers.{below_top}
 use Rattle.books.specs.Book.{length_in, one_symbol_each}
-use Rattle.books.specs.Steps.{AllShaped, taken, Hit, marked, mark_of, Marking, reached, Spread, Joined, Widened, Full}
+use Rattle.books.specs.Steps.{Decides, AllShaped, taken, Hit, marked, mark_of, Marking, reached, Spread, Joined, Widened, Full}
 use Rattle.books.proofs.Symbols.{some}
 use Rattle.books.proofs.Agreement.{which_at}
 use Rattle.books.proofs.Covered.{covered_each}
@@ -151,15 +154,6 @@ spreading_end marks₀ marks b l v d n ld ln = v.done d n (omega arith) ln
 
 -- ---- all ones
 
-pub full_turn : (marks : List ℕ) (w : ℕ) → get_or marks w 0 ≡ 2 ^ 64 - 1 → 64 ≤ w → ((n : ℕ) → 64 + n / 64 < w → marked marks (mark_of 6 n) ≡ true)
-    → (n : ℕ) → 64 + n / 64 < w + 1 → marked marks (mark_of 6 n) ≡ true
-full_turn marks w e l v n h =
-    ⊎_elim (λ (q : 64 + n / 64 < w). v n q)
-    (λ (q : w ≤ 64 + n / 64).
-    let at : 64 + n / 64 ≡ w = omega arith in
-    marked_at marks 6 n ∙ ap (λ (k : ℕ). has (get_or marks k 0) (n % 64)) at ∙ ap (λ (k : ℕ). has k (n % 64)) e ∙ has_ones 64 (n % 64)
-    ∙ lt-ltb (n % 64) 64 (omega arith)) (lt_or_le (64 + n / 64) w)
-
 pub full_stop : (marks : List ℕ) (w : ℕ) → 64 ≤ w → w < 128 → get_or marks w 0 < 2 ^ 64 → (get_or marks w 0 ≡ 2 ^ 64 - 1 → ⊥) → Full marks → ⊥
 full_stop marks w l h small not all = not (word_ext 64 (get_or marks w 0) (2 ^ 64 - 1) small (ones_lt 64) columns)
   where
@@ -169,6 +163,18 @@ full_stop marks w l h small not all = not (word_ext 64 (get_or marks w 0) (2 ^ 6
         let bit : ((w - 64) * 64 + c) % 64 ≡ c = omega arith in
         sym (ap₂ (λ (k b : ℕ). has (get_or marks k 0) b) at bit) ∙ sym (marked_at marks 6 ((w - 64) * 64 + c)) ∙ all ((w - 64) * 64 + c) (omega arith)
         ∙ sym (has_ones 64 c ∙ lt-ltb c 64 lc)
+
+-- the words from 64 up say whether all are marked
+pub all_full : (marks : List ℕ) → length marks ≡ 128 → ((w : ℕ) → get_or marks w 0 < 2 ^ 64) → (r : Bool)
+    → MatchBool r (AllWithin (λ x. x ≡ 2 ^ 64 - 1) (drop 64 marks) 0 (length (drop 64 marks)))
+    ((k : ℕ) × (k < length (drop 64 marks)) × HoldsAt (λ x. x ≢ 2 ^ 64 - 1) (drop 64 marks) k)
+    → Decides (Full marks) r
+all_full marks size small true all = λ n l.
+    let ones : get_or marks (64 + n / 64) 0 ≡ 2 ^ 64 - 1 =
+    sym (get_or-drop 64 marks (n / 64) 0) ∙ all (n / 64) 0 (omega arith) (omega (arith, length-drop 64 marks)) in
+    marked_at marks 6 n ∙ ap (λ (k : ℕ). has k (n % 64)) ones ∙ has_ones 64 (n % 64) ∙ lt-ltb (n % 64) 64 (omega arith)
+all_full marks size small false d = λ full.
+    full_stop marks (64 + d.0) (omega arith) (omega (arith, d.1, length-drop 64 marks)) (small (64 + d.0)) (λ e. d.2 0 (get_or-drop 64 marks d.0 0 ∙ e)) full
 
 -- ---- what is reached has a symbol, and the other way round
 

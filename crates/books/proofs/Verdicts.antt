@@ -76,6 +76,10 @@ module _ (book : List ℕ) where
   pub first_accepted : accepted [] ≡ first_judged book → (first_misshapen book ≡ length book) × (taken book ≡ 4096)
   first_accepted e = let j = judged_accepted (eqb (taken book) 4096) (sym e) in (j.0, eqb-true (taken book) 4096 j.1)
 
+  -- the length is right
+  pub sized_of : accepted [] ≡ choose (not (sized book)) (refused 2 0) (accepted []) → sized book ≡ true
+  sized_of e = not-false (sized book) (took (not (sized book)) (accepted []) 2 0 [] (sym e)).0
+
   pub check_sized : (t : Bool) → sized book ≡ t → check_of book ≡ choose (not t) (refused 2 0) (judged book (one_symbol_each book))
   unfolding check_of
   check_sized t s = ap (λ (b : Bool). choose (not b) (refused 2 0) (judged book (one_symbol_each book))) s

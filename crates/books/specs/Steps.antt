@@ -1,12 +1,12 @@
 -- What the private functions promise each other: no public contract cites it, so there is nothing here to believe. Assumes nothing.
-use Rattle.std.specs.Prelude.{◌≡◌, Bool, true, false, not, ◌&&◌, ◌||◌, List, [], ◌∷◌, ℕ, zero, suc, ◌+◌, ◌-◌, ◌*◌, ◌/◌, ◌%◌, ◌^◌, ◌≤◌, ◌<◌, eqb, ltb, length, get_or}
+use Rattle.std.specs.Prelude.{◌≡◌, Bool, true, false, not, ◌&&◌, ◌||◌, List, [], ◌∷◌, ℕ, zero, suc, ◌+◌, ◌-◌, ◌*◌, ◌/◌, ◌%◌, ◌^◌, ◌≤◌, ◌<◌, eqb, ltb, length, get_or, Result, Ok, Err}
 use Rattle.std.specs.Int.Bits.{bit_or}
 use Rattle.laws.specs.Columns.{has}
-use Rattle.refusals.specs.Outcome.{Outcome}
+use Rattle.refusals.specs.Outcome.{Outcome, refused}
 use Rattle.books.specs.Book.{length_in, codeword_in, first_misshapen}
 use Rattle.books.specs.Calls.{judged}
-use Rattle.books.specs.declared.shapes.Shapes.{Shapes}
-use Rattle.books.specs.declared.shapes.Shapes.TheVariants.{Misshapen, Taken}
+use Rattle.refusals.specs.Told.{told}
+use Rattle.refusals.specs.declared.Refusal.{Refusal}
 
 -- a test says that a fact holds, or that it does not
 abbrev pub Decides : Type 0 → Bool → Type 0
@@ -29,9 +29,9 @@ unfoldable pub taken : List ℕ → ℕ
 taken [] = 0
 taken (entry ∷ more) = 4096 / 2 ^ length_in entry + taken more
 
-abbrev pub ShapesBy : List ℕ → Shapes → Type 0
-ShapesBy book (Misshapen x) = (first_misshapen book ≡ x) × (x < length book)
-ShapesBy book (Taken sum) = (first_misshapen book ≡ length book) × (sum ≡ taken book)
+abbrev pub ShapesBy : List ℕ → Result ℕ Refusal → Type 0
+ShapesBy book (Ok sum) = (first_misshapen book ≡ length book) × (sum ≡ taken book)
+ShapesBy book (Err why) = (told why ≡ refused 3 (first_misshapen book)) × (first_misshapen book < length book)
 
 -- the shapes and the sum alone
 abbrev pub first_judged : List ℕ → Outcome

@@ -3,9 +3,9 @@
 ghost use Rattle.std.specs.Prelude.{◌≡◌, false, ℕ, ◌+◌, ◌%◌, ◌^◌, ◌≤◌, ◌<◌, eqb, length};
 ghost use Rattle.laws.specs.Columns.{has};
 ghost use Rattle.books.specs.Book.{one_symbol_each};
-ghost use Rattle.books.specs.Steps.{AllShaped, taken, Decides, marked, Marked, Marking, Joined, Widened, Spread, Full};
+ghost use Rattle.books.specs.Steps.{marked, Decides, Marked, Marking, Joined, Widened, Spread, Full};
 
-use super::shapes::wide;
+use super::book::WholeBook;
 
 // The numbers below 64 whose low bits are the codeword, by doubling.
 fn pattern(len: usize, codeword: usize) -> u64
@@ -13,17 +13,15 @@ fn pattern(len: usize, codeword: usize) -> u64
     ensures { (c : ℕ) → c < 64 → has result c ≡ eqb (c % 2 ^ len) codeword }
 {
     let mut word = 1u64 << codeword;
-    let mut bits = len;
-    while bits < 6 {
+    for bits in len..6 {
         word |= word << (1usize << bits);
-        bits += 1;
     }
     word
 }
 
 // A short codeword is marked at all its numbers of six bits, as one word; a long one at itself.
-fn mark(marks: &mut [u64], len: usize, codeword: usize)
-    requires { (length marks.old ≡ 128) × (len ≤ 12) × (codeword < 2 ^ len) }
+fn mark(marks: &mut [u64; 128], len: usize, codeword: usize)
+    requires { (len ≤ 12) × (codeword < 2 ^ len) }
     ensures { Marked marks.old marks.new len codeword }
 {
     if len < 7 {
@@ -34,33 +32,28 @@ fn mark(marks: &mut [u64], len: usize, codeword: usize)
     marks[at / 64] |= 1u64 << (at % 64);
 }
 
-fn mark_all(book: &[u16], marks: &mut [u64])
-    requires { AllShaped book.now × (length marks.old ≡ 128) × ((at : ℕ) → marked marks.old at ≡ false) }
-    ensures { Marking book.now marks.new (length book.now) }
+fn mark_all(book: WholeBook, marks: &mut [u64; 128])
+    requires { (at : ℕ) → marked marks.old at ≡ false }
+    ensures { Marking book.entry.entries.now marks.new (length book.entry.entries.now) }
 {
-    let mut x = 0;
-    while x < book.len() {
-        let entry = wide(book[x]);
-        mark(marks, entry / 4096, entry % 4096);
-        x += 1;
+    for entry in book.entries {
+        mark(marks, usize::from(entry / 4096), usize::from(entry % 4096));
     }
 }
 
-// So many words go into as many others.
-fn join(marks: &mut [u64], from: usize, to: usize, count: usize)
-    requires { (length marks.old ≡ 128) × (from + count ≤ to) × (to + count ≤ 128) }
+// So many words go into as many others. By an index, as both lie in one array: a split of it in two and two parts in step are no plainer.
+fn join(marks: &mut [u64; 128], from: usize, to: usize, count: usize)
+    requires { (from + count ≤ to) × (to + count ≤ 128) }
     ensures { Joined marks.old marks.new from to count }
 {
-    let mut i = 0;
-    while i < count {
+    for i in 0..count {
         marks[to + i] |= marks[from + i];
-        i += 1;
     }
 }
 
 // A number of one more bit gets the mark of its low bits.
-fn widen(marks: &mut [u64], half: usize)
-    requires { (length marks.old ≡ 128) × (half ≤ 32) }
+fn widen(marks: &mut [u64; 128], half: usize)
+    requires { half ≤ 32 }
     ensures { Widened marks.old marks.new half }
 {
     join(marks, half, half * 2, half);
@@ -68,39 +61,25 @@ fn widen(marks: &mut [u64], half: usize)
 }
 
 // From six bits to twelve: in the end a number is marked if any symbol has it.
-fn spread(marks: &mut [u64])
-    requires { length marks.old ≡ 128 }
+fn spread(marks: &mut [u64; 128])
     ensures { Spread marks.old marks.new }
 {
-    let mut d: usize = 0;
-    let mut half: usize = 1;
-    while d < 6 {
-        widen(marks, half);
-        half *= 2;
-        d += 1;
+    for d in 0..6u32 {
+        widen(marks, 1 << d);
     }
 }
 
-fn all_marked(marks: &[u64]) -> bool
-    requires { length marks.now ≡ 128 }
+fn all_marked(marks: &[u64; 128]) -> bool
     ensures { Decides (Full marks.now) result }
 {
-    let mut w = 64;
-    while w < 128 {
-        if marks[w] != 0xFFFF_FFFF_FFFF_FFFF {
-            return false;
-        }
-        w += 1;
-    }
-    true
+    marks[64..].iter().all(|word| *word == u64::MAX)
 }
 
-// For a book whose codewords take 4,096 numbers: does it pass? It does if no number is left out.
-pub fn covers(book: &[u16]) -> bool
-    requires { AllShaped book.now × (taken book.now ≡ 4096) }
-    ensures { result ≡ one_symbol_each book.now }
+// Does the book pass? It does if no number is left out.
+pub fn covers(book: WholeBook) -> bool
+    ensures { result ≡ one_symbol_each book.entry.entries.now }
 {
-    let mut marks = [0u64; 128];
+    let mut marks = [0; 128];
     mark_all(book, &mut marks);
     spread(&mut marks);
     all_marked(&marks)

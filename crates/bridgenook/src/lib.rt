@@ -10,4 +10,5 @@ pub mod stream_calls;
 pub mod table_calls;
 pub mod union_calls;
 pub mod unit_counts;
+mod values;
 pub mod version;

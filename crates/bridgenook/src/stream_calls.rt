@@ -2,38 +2,14 @@
 ghost use Rattle.std.specs.Prelude.{◌≡◌};
 ghost use Rattle.pair_lists.specs.Lists.{judge_pairs_of};
 ghost use Rattle.streams.specs.Calls.{write_pairs_of, pairs_written, write_window_of, window_written, read_pairs_of, pairs_read, read_window_of, window_read};
-ghost use Rattle.compression.specs.Told.{told_write, told_read};
 ghost use Rattle.bridgenook.specs.Exports.{Says};
 
-use super::answers;
-use compression::{ReadAnswer, WriteAnswer};
-use pair_lists::PairsAnswer;
+use super::answers::say;
 
 pub fn bridgenook_judge_pairs(lg: u8, pairs: &[u32], answer: &mut [u64; 8]) -> u32
     ensures { Says (judge_pairs_of lg pairs.now) result answer.new }
 {
-    match pair_lists::judge_pairs(lg, pairs) {
-        PairsAnswer::Lawful => answers::accept([0, 0, 0, 0, 0, 0], answer),
-        PairsAnswer::Refused(why) => answers::refuse(why, answer),
-    }
-}
-
-fn say_write(write: WriteAnswer, answer: &mut [u64; 8]) -> u32
-    ensures { Says (told_write write) result answer.new }
-{
-    match write {
-        WriteAnswer::Written(bits, words) => answers::accept([bits.0, words.0, 0, 0, 0, 0], answer),
-        WriteAnswer::Refused(why) => answers::refuse(why, answer),
-    }
-}
-
-fn say_read(read: ReadAnswer, answer: &mut [u64; 8]) -> u32
-    ensures { Says (told_read read) result answer.new }
-{
-    match read {
-        ReadAnswer::Read => answers::accept([0, 0, 0, 0, 0, 0], answer),
-        ReadAnswer::Refused(why) => answers::refuse(why, answer),
-    }
+    say(pair_lists::judge_pairs(lg, pairs), answer)
 }
 
 pub fn bridgenook_write_pairs(
@@ -46,7 +22,7 @@ pub fn bridgenook_write_pairs(
     ensures { Says (write_pairs_of book.now lg pairs.now out.old) result answer.new
         × (out.new ≡ pairs_written book.now lg pairs.now out.old) }
 {
-    say_write(compression::write_pairs(book, lg, pairs, out), answer)
+    say(compression::write_pairs(book, lg, pairs, out), answer)
 }
 
 pub fn bridgenook_write_window(
@@ -59,7 +35,7 @@ pub fn bridgenook_write_window(
     ensures { Says (write_window_of book.now lg window.now out.old) result answer.new
         × (out.new ≡ window_written book.now lg window.now out.old) }
 {
-    say_write(compression::write_window(book, lg, window, out), answer)
+    say(compression::write_window(book, lg, window, out), answer)
 }
 
 pub fn bridgenook_read_pairs(
@@ -74,7 +50,7 @@ pub fn bridgenook_read_pairs(
     ensures { Says (read_pairs_of book.now table.now lg count stream.now out.old) result answer.new
         × (out.new ≡ pairs_read book.now table.now lg count stream.now out.old) }
 {
-    say_read(
+    say(
         compression::read_pairs(book, table, lg, count, stream, out),
         answer,
     )
@@ -91,7 +67,7 @@ pub fn bridgenook_read_window(
     ensures { Says (read_window_of book.now table.now lg stream.now window.old) result answer.new
         × (window.new ≡ window_read book.now table.now lg stream.now window.old) }
 {
-    say_read(
+    say(
         compression::read_window(book, table, lg, stream, window),
         answer,
     )

@@ -1,52 +1,10 @@
 // The pair table. Its record goes in as numbers and comes out as values; region and spare go as they are.
 ghost use Rattle.std.specs.Prelude.{◌≡◌};
 ghost use Rattle.tables.specs.Calls.{new_of, blank_if, insert_of, insert_region, delete_of, delete_region, spare_after, clear_of, build_of, build_region, build_spare, list_of_items, extract_into, walk_into};
-ghost use Rattle.pair_table.specs.Told.{told_table, told_change};
-ghost use Rattle.table_listings.specs.Told.{told_list};
 ghost use Rattle.bridgenook.specs.Exports.{Says};
 
-use super::answers;
-use pair_table::{ChangeAnswer, PairTable, TableAnswer};
-use table_listings::ListAnswer;
-
-fn say_table(table: TableAnswer, answer: &mut [u64; 8]) -> u32
-    ensures { Says (told_table table) result answer.new }
-{
-    match table {
-        TableAnswer::Made(made) => {
-            let lg = made.lg as u64;
-            let valid = made.valid as u64;
-            let items = made.items as u64;
-            answers::accept([lg, valid, items, 0, 0, 0], answer)
-        }
-        TableAnswer::Refused(why) => answers::refuse(why, answer),
-    }
-}
-
-// True with the new record, or false.
-fn say_change(change: ChangeAnswer, answer: &mut [u64; 8]) -> u32
-    ensures { Says (told_change change) result answer.new }
-{
-    match change {
-        ChangeAnswer::Changed(made) => {
-            let lg = made.lg as u64;
-            let valid = made.valid as u64;
-            let items = made.items as u64;
-            answers::accept([1, lg, valid, items, 0, 0], answer)
-        }
-        ChangeAnswer::Unchanged => answers::accept([0, 0, 0, 0, 0, 0], answer),
-        ChangeAnswer::Refused(why) => answers::refuse(why, answer),
-    }
-}
-
-fn say_list(list: ListAnswer, answer: &mut [u64; 8]) -> u32
-    ensures { Says (told_list list) result answer.new }
-{
-    match list {
-        ListAnswer::Listed(items) => answers::accept([items as u64, 0, 0, 0, 0, 0], answer),
-        ListAnswer::Refused(why) => answers::refuse(why, answer),
-    }
-}
+use super::answers::say;
+use pair_table::PairTable;
 
 pub fn bridgenook_table_new(
     lg: u8,
@@ -59,7 +17,7 @@ pub fn bridgenook_table_new(
         × (region.new ≡ blank_if (new_of region.old spare.old lg valid) region.old)
         × (spare.new ≡ blank_if (new_of region.old spare.old lg valid) spare.old) }
 {
-    say_table(pair_table::new(lg, valid, region, spare), answer)
+    say(pair_table::new(lg, valid, region, spare), answer)
 }
 
 pub fn bridgenook_table_build(
@@ -73,7 +31,7 @@ pub fn bridgenook_table_build(
         × (region.new ≡ build_region region.old spare.old valid list.now)
         × (spare.new ≡ build_spare region.old spare.old valid list.now) }
 {
-    say_table(pair_table::build(valid, list, region, spare), answer)
+    say(pair_table::build(valid, list, region, spare), answer)
 }
 
 pub fn bridgenook_table_insert(
@@ -90,7 +48,7 @@ pub fn bridgenook_table_insert(
         × (spare.new ≡ spare_after (insert_of region.old spare.old lg valid items item) spare.old) }
 {
     let table = PairTable { lg, valid, items };
-    say_change(pair_table::insert(table, region, spare, item), answer)
+    say(pair_table::insert(table, region, spare, item), answer)
 }
 
 pub fn bridgenook_table_delete(
@@ -107,7 +65,7 @@ pub fn bridgenook_table_delete(
         × (spare.new ≡ spare_after (delete_of region.old spare.old lg valid items item) spare.old) }
 {
     let table = PairTable { lg, valid, items };
-    say_change(pair_table::delete(table, region, spare, item), answer)
+    say(pair_table::delete(table, region, spare, item), answer)
 }
 
 pub fn bridgenook_table_extract(
@@ -123,7 +81,10 @@ pub fn bridgenook_table_extract(
         × (out.new ≡ extract_into region.now spare.now lg valid items out.old) }
 {
     let table = PairTable { lg, valid, items };
-    say_list(table_listings::extract(table, region, spare, out), answer)
+    say(
+        table_listings::extract(table, region, spare, out).map(u64::from),
+        answer,
+    )
 }
 
 pub fn bridgenook_table_walk(
@@ -139,7 +100,10 @@ pub fn bridgenook_table_walk(
         × (out.new ≡ walk_into region.now spare.now lg valid items out.old) }
 {
     let table = PairTable { lg, valid, items };
-    say_list(table_listings::walk(table, region, spare, out), answer)
+    say(
+        table_listings::walk(table, region, spare, out).map(u64::from),
+        answer,
+    )
 }
 
 pub fn bridgenook_table_clear(
@@ -155,5 +119,5 @@ pub fn bridgenook_table_clear(
         × (spare.new ≡ blank_if (clear_of region.old spare.old lg valid items) spare.old) }
 {
     let table = PairTable { lg, valid, items };
-    say_table(pair_table::clear(table, region, spare), answer)
+    say(pair_table::clear(table, region, spare), answer)
 }

@@ -1,7 +1,6 @@
 // The book calls.
 ghost use Rattle.std.specs.Prelude.{◌≡◌};
 ghost use Rattle.books.specs.Calls.{check_of, check_table_of, fill_of, filled, pick_of};
-ghost use Rattle.books.specs.Told.{told_check};
 ghost use Rattle.bridgenook.specs.Exports.{Says};
 
 #[unsafe(no_mangle)]

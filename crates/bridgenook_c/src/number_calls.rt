@@ -1,6 +1,5 @@
 // Rows, flavor, offset, phase, base bits, and the most bits that n pairs take.
 ghost use Rattle.numbers.specs.Calls.{rows_of, flavor_of, offset_of, phase_of, base_bits_of, most_bits_of};
-ghost use Rattle.numbers.specs.Told.{told_number};
 ghost use Rattle.bridgenook.specs.Exports.{Says};
 
 #[unsafe(no_mangle)]

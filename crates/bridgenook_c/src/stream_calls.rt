@@ -2,7 +2,6 @@
 ghost use Rattle.std.specs.Prelude.{◌≡◌};
 ghost use Rattle.pair_lists.specs.Lists.{judge_pairs_of};
 ghost use Rattle.streams.specs.Calls.{write_pairs_of, pairs_written, write_window_of, window_written, read_pairs_of, pairs_read, read_window_of, window_read};
-ghost use Rattle.compression.specs.Told.{told_write, told_read};
 ghost use Rattle.bridgenook.specs.Exports.{Says};
 
 #[unsafe(no_mangle)]

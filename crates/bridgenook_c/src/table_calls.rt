@@ -1,8 +1,6 @@
 // The pair table. Its record goes in as numbers and comes out as values; region and spare go as they are.
 ghost use Rattle.std.specs.Prelude.{◌≡◌};
 ghost use Rattle.tables.specs.Calls.{new_of, blank_if, insert_of, insert_region, delete_of, delete_region, spare_after, clear_of, build_of, build_region, build_spare, list_of_items, extract_into, walk_into};
-ghost use Rattle.pair_table.specs.Told.{told_table, told_change};
-ghost use Rattle.table_listings.specs.Told.{told_list};
 ghost use Rattle.bridgenook.specs.Exports.{Says};
 
 #[unsafe(no_mangle)]

@@ -1,7 +1,6 @@
 // Matrices and unions. A union's record and a source's go in as numbers, a union's comes out as values; matrix, window and pairs go as they are.
 ghost use Rattle.std.specs.Prelude.{◌≡◌};
 ghost use Rattle.matrices.specs.Calls.{count_of, split_of, split_window, split_pairs, expand_of, expanded_matrix, new_union_of, new_matrix, merge_of, merged_matrix};
-ghost use Rattle.unions.specs.Told.{told_split, told_union};
 ghost use Rattle.bridgenook.specs.Exports.{Says};
 
 #[unsafe(no_mangle)]

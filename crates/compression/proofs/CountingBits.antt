@@ -2,7 +2,7 @@
 use mathlib.Core.Path.{◌≡◌, sym, ap, ◌∙◌, subst}
 use mathlib.Core.Logic.{⊎_elim}
 use mathlib.Core.List.{List, [], ◌∷◌}
-use Prim.Native.Nat.{ℕ, ◌+◌, ◌-◌, ◌*◌, ◌/◌, ◌%◌, ◌^◌, ◌≤◌, ◌<◌}
+use Prim.Native.Nat.{ℕ, ◌+◌, ◌*◌, ◌/◌, ◌%◌, ◌≤◌, ◌<◌}
 use native.Mathlib.Numerals.{add-one}
 use native.Mathlib.Omega.{arith}
 use lib.ListN.{length, get_or, drop, drop_of_length-le, get_or-eq_default}
@@ -10,32 +10,26 @@ use lib.Seq.{drop-cons}
 use Rattle.laws.proofs.Orders.{lt_or_le}
 use Rattle.books.specs.Book.{length_in}
 use Rattle.books.specs.Steps.{AllShaped}
+use Rattle.refusals.specs.Outcome.{accepted}
+use Rattle.pair_lists.specs.Lists.{pairs_judged}
 use Rattle.streams.specs.Codes.{total}
-use Rattle.streams.specs.Written.{predicted, pair_codes, codes_from, window_codes}
+use Rattle.streams.specs.Written.{pair_codes, codes_from, window_codes}
 use Rattle.streams.proofs.Rising.{Follows, Rising, rising, rising_at}
 use Rattle.streams.proofs.Packing.{total_append}
-use Rattle.compression.specs.Writing.{Accepts}
 
 -- the first item of the rest
 pub next_item : (items : List ℕ) (i : ℕ) → i < length items → drop i items ≡ get_or items i 0 ∷ drop (i + 1) items
 next_item items i l = rw add-one (drop-cons items i 0 l)
 
--- the bits of one pair
-pub pair_total : (book : List ℕ) (b row next pair x : ℕ) → x ≡ pair % 64 - predicted (pair / 64 - row) next
-    → total (pair_codes book b row next pair) ≡ length_in (get_or book x 0) + (pair / 64 - row) / 2 ^ b + 1 + b
-unfolding total
-pair_total book b row next pair x e = let is = ap (λ (i : ℕ). length_in (get_or book i 0)) e in omega arith
-
-module _ (book : List ℕ) (b : ℕ) (pairs : List ℕ) where
+module _ (book : List ℕ) (b k : ℕ) (pairs : List ℕ) where
   -- what holds at the head of the pass over the pairs
   pub record CountingPairs (sum row next i : ℕ) : Type 0 where
     pub within : i ≤ length pairs
     pub left : sum + total (codes_from book b row next (drop i pairs)) ≡ total (codes_from book b 0 0 pairs)
-    pub rows : ℕ
-    pub rises : Rising rows row next (drop i pairs)
+    pub rises : Rising k row next (drop i pairs)
 
-  pub pairs_start : Accepts pairs → CountingPairs 0 0 0 0
-  pairs_start a = record { within = omega arith; left = omega arith; rows = a.0; rises = rising a.0 pairs a.1 }
+  pub pairs_start : pairs_judged k pairs ≡ accepted [] → CountingPairs 0 0 0 0
+  pairs_start a = record { within = omega arith; left = omega arith; rises = rising k pairs a }
 
   pub pairs_end : (sum row next i : ℕ) → CountingPairs sum row next i → length pairs ≤ i → sum ≡ total (codes_from book b 0 0 pairs)
   unfolding codes_from total
@@ -47,7 +41,7 @@ module _ (book : List ℕ) (b : ℕ) (pairs : List ℕ) where
     abbrev pair : ℕ
     pair = get_or pairs i 0
 
-    pub pair_follows : Follows c.rows row next pair
+    pub pair_follows : Follows k row next pair
     pair_follows = (rising_at pairs i l c.rises).0
 
     parts : total (codes_from book b row next (drop i pairs))
@@ -70,8 +64,7 @@ module _ (book : List ℕ) (b : ℕ) (pairs : List ℕ) where
           (record {
             within = omega arith;
             left = omega (arith, parts, counted, c.left);
-            rows = c.rows;
-            rises = subst (λ (j : ℕ). Rising c.rows (pair / 64) (pair % 64 + 1) (drop j pairs)) (sym (add-one i)) (rising_at pairs i l c.rises).1;
+            rises = subst (λ (j : ℕ). Rising k (pair / 64) (pair % 64 + 1) (drop j pairs)) (sym (add-one i)) (rising_at pairs i l c.rises).1;
           })
 
 -- a code has at most twelve bits

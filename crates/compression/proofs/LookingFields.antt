@@ -23,9 +23,6 @@ module _ (n end : ℕ) (book : List ℕ) (at : ℕ) where
   abbrev symbol_of : ℕ → ℕ → Looked
   symbol_of look next = found (decoded book look % 256) (at + decoded book look / 256)
 
-  pub code_cut : (p : ℕ) → end < at + 12 → p ≡ at → code_at n end book at ≡ cut p
-  code_cut p h e = ap (λ (l : Looked). then_look l symbol_of) (field_cut n end 12 at p h e)
-
   -- by an entry of the table
   pub code_found : (table : List ℕ) → Holds book table → (x entry v q : ℕ) → at + 12 ≤ end → x ≡ bits_at n at 12 → entry ≡ get_or table x 0 → v ≡ entry % 256
       → q ≡ at + entry / 256 → code_at n end book at ≡ found v q
@@ -48,12 +45,6 @@ row_fits z b low h l hl =
 module _ (n end b at : ℕ) where
   abbrev lows_after : ℕ → ℕ → Looked
   lows_after z q = then_look (field_at n end b q) (λ low p. found (z * 2 ^ b + low) p)
-
-  pub row_cut : (p : ℕ) → zeros_at n end at ≡ cut p → row_step_at n end b at ≡ cut p
-  row_cut p e = ap (λ (l : Looked). then_look l lows_after) e
-
-  pub row_cut_low : (z q p : ℕ) → zeros_at n end at ≡ found z q → field_at n end b q ≡ cut p → row_step_at n end b at ≡ cut p
-  row_cut_low z q p e f = ap (λ (l : Looked). then_look l lows_after) e ∙ ap (λ (l : Looked). then_look l (λ low p. found (z * 2 ^ b + low) p)) f
 
   pub row_found : (z q low p v : ℕ) → zeros_at n end at ≡ found z q → field_at n end b q ≡ found low p → v ≡ z * 2 ^ b + low → row_step_at n end b at ≡ found v p
   row_found z q low p v e f ev =

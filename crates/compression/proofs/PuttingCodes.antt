@@ -43,9 +43,9 @@ puts_two o o' w w' c d p = subst₂ (λ (v k : ℕ). PutBy o o' w w' v k) (sym (
 
 -- ---- the codes of one pair
 
-pub parts_total : (entry zeros b low : ℕ) → total (part_codes entry zeros b low) ≡ length_in entry + zeros + 1 + b
+pub parts_total : (entry run b low : ℕ) → total (part_codes entry run b low) ≡ length_in entry + run + 1 + b
 unfolding total
-parts_total entry zeros b low = omega arith
+parts_total entry run b low = omega arith
 
 -- an odd number, moved up
 moved_odd : (zeros size low : ℕ) → (2 ^ zeros + low * 2 ^ (zeros + 1)) * 2 ^ size ≡ (low * 2 + 1) * 2 ^ (size + zeros)

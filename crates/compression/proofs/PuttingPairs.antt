@@ -5,17 +5,19 @@ use Prim.Native.Nat.{ℕ, ◌+◌, ◌/◌, ◌%◌, ◌≤◌, ◌<◌}
 use native.Mathlib.Numerals.{add-one}
 use native.Mathlib.Omega.{arith}
 use lib.ListN.{length, get_or, drop, drop_of_length-le}
+use Rattle.refusals.specs.Outcome.{accepted}
+use Rattle.pair_lists.specs.Lists.{pairs_judged}
 use Rattle.streams.specs.Codes.{Code, total, pack}
 use Rattle.streams.specs.Written.{pair_codes, codes_from}
 use Rattle.streams.proofs.Rising.{Follows, Rising, rising, rising_at}
 use Rattle.streams.proofs.Packing.{total_append}
-use Rattle.compression.specs.Writing.{Lawful, bits_put, PutsBy, Accepts}
+use Rattle.compression.specs.Writing.{Lawful, bits_put, PutsBy}
 use Rattle.compression.specs.declared.writer.Writer.{Writer}
 use Rattle.compression.proofs.PuttingValues.{put_none}
 use Rattle.compression.proofs.PuttingCodes.{puts_then}
 use Rattle.compression.proofs.CountingBits.{next_item}
 
-module _ (book : List ℕ) (b : ℕ) (pairs out₀ : List ℕ) (w₀ : Writer) where
+module _ (book : List ℕ) (b k : ℕ) (pairs out₀ : List ℕ) (w₀ : Writer) where
   abbrev all : List Code
   all = codes_from book b 0 0 pairs
 
@@ -25,18 +27,16 @@ module _ (book : List ℕ) (b : ℕ) (pairs out₀ : List ℕ) (w₀ : Writer) w
     pub passed : List Code
     pub split : all ≡ passed ++ codes_from book b row next (drop i pairs)
     pub puts : PutsBy out₀ out w₀ w passed
-    pub rows : ℕ
-    pub rises : Rising rows row next (drop i pairs)
+    pub rises : Rising k row next (drop i pairs)
 
-  pub start : Lawful out₀ w₀ → Accepts pairs → Head out₀ w₀ 0 0 0
+  pub start : Lawful out₀ w₀ → pairs_judged k pairs ≡ accepted [] → Head out₀ w₀ 0 0 0
   unfolding pack total
   start law a = record {
     within = omega arith;
     passed = [];
     split = refl;
     puts = put_none out₀ w₀ law;
-    rows = a.0;
-    rises = rising a.0 pairs a.1;
+    rises = rising k pairs a;
   }
 
   pub end : (out : List ℕ) (w : Writer) (row next i : ℕ) → Head out w row next i → length pairs ≤ i → PutsBy out₀ out w₀ w all
@@ -54,7 +54,7 @@ module _ (book : List ℕ) (b : ℕ) (pairs out₀ : List ℕ) (w₀ : Writer) w
     unfolding codes_from
     step = h.split ∙ ap (λ (x : List ℕ). h.passed ++ codes_from book b row next x) (next_item pairs i lt)
 
-    pub first : Follows h.rows row next p
+    pub first : Follows k row next p
     first = (rising_at pairs i lt h.rises).0
 
     pub room : bits_put w + total (pair_codes book b row next p) ≤ bits_put w₀ + total all
@@ -74,6 +74,5 @@ module _ (book : List ℕ) (b : ℕ) (pairs out₀ : List ℕ) (w₀ : Writer) w
       passed = h.passed ++ pair_codes book b row next p;
       split = step ∙ sym (append_assoc h.passed (pair_codes book b row next p) (codes_from book b (p / 64) (p % 64 + 1) (drop (i + 1) pairs)));
       puts = puts_then out₀ out out' w₀ w w' h.passed (pair_codes book b row next p) h.puts q;
-      rows = h.rows;
-      rises = subst (λ (j : ℕ). Rising h.rows (p / 64) (p % 64 + 1) (drop j pairs)) (sym (add-one i)) (rising_at pairs i lt h.rises).1;
+      rises = subst (λ (j : ℕ). Rising k (p / 64) (p % 64 + 1) (drop j pairs)) (sym (add-one i)) (rising_at pairs i lt h.rises).1;
     }

@@ -1,9 +1,12 @@
 -- The loop that puts a window, two codes at a time: what holds at its head, and that two codes keep it. Assumes nothing.
 use mathlib.Core.Path.{◌≡◌, refl, sym, ap, ap₂, ◌∙◌, subst}
 use mathlib.Core.List.{List, [], ◌∷◌, ◌++◌, append_assoc, append-nil}
-use Prim.Native.Nat.{ℕ, ◌+◌, ◌*◌, ◌%◌, ◌^◌, ◌≤◌, ◌<◌}
+use Prim.Native.Nat.{ℕ, zero, suc, ◌+◌, ◌*◌, ◌/◌, ◌%◌, ◌^◌, ◌≤◌, ◌<◌}
 use native.Mathlib.Omega.{arith}
-use lib.ListN.{length, get_or, drop, drop_of_length-le}
+use lib.ListN.{length, get_or, take, drop, drop_of_length-le}
+use lib.Seq.{drop-drop, get_or-take}
+use Rattle.std.specs.Simd.{first_chunks}
+use Rattle.std.proofs.lemmas.List.{get_or-drop}
 use Rattle.books.specs.Book.{length_in, codeword_in}
 use Rattle.books.specs.Steps.{Shape}
 use Rattle.streams.specs.Codes.{Code, total, pack}
@@ -22,6 +25,19 @@ two_small first second s t =
     subst (λ (v : ℕ). v < 2 ^ (length_in first + length_in second)) (pack_two (entry_code first) (entry_code second))
     (subst (λ (n : ℕ). pack (entry_code first ∷ entry_code second ∷ []) < 2 ^ n) (total_two (entry_code first) (entry_code second))
     (pack_fits (then s.fits (then t.fits empty))))
+
+-- the window's bytes, two by two
+two_at : (count : ℕ) (bytes : List ℕ) (i : ℕ) (d : List ℕ) → i < count → get_or (first_chunks 2 count bytes) i d ≡ take 2 (drop (2 * i) bytes)
+two_at zero bytes i d l = absurd (omega arith)
+two_at (suc count) bytes zero d l = refl
+two_at (suc count) bytes (suc i) d l =
+    two_at count (drop 2 bytes) i d (omega arith) ∙ ap (take 2) (drop-drop (2 * i) 2 bytes ∙ ap (λ (j : ℕ). drop j bytes) (omega arith))
+
+pub byte_at : (twos : List (List ℕ)) (bytes : List ℕ) (i j : ℕ) (d : List ℕ) → twos ≡ first_chunks 2 (length bytes / 2) bytes → i < length bytes / 2 → j < 2
+    → get_or (get_or twos i d) j 0 ≡ get_or bytes (2 * i + j) 0
+byte_at twos bytes i j d is l h =
+    ap (λ (t : List (List ℕ)). get_or (get_or t i d) j 0) is ∙ ap (λ (t : List ℕ). get_or t j 0) (two_at (length bytes / 2) bytes i d l)
+    ∙ get_or-take 2 (drop (2 * i) bytes) j 0 h ∙ get_or-drop (2 * i) bytes j 0
 
 module _ (book window out₀ : List ℕ) (w₀ : Writer) where
   -- the codes of the bytes passed are put, and those of the rest are to come
@@ -44,7 +60,7 @@ module _ (book window out₀ : List ℕ) (w₀ : Writer) where
       subst (PutsBy out₀ out w₀ w) (sym e) h.puts
 
   module _ (out : List ℕ) (w : Writer) (i : ℕ) (h : WindowHead out w i) (whole : length window % 2 ≡ 0) (lt : i < length window) where
-    pub second_inside : i + 1 < length window
+    second_inside : i + 1 < length window
     second_inside = omega (arith, h.even)
 
     module _ (a b : ℕ) (first : a ≡ get_or book (get_or window i 0) 0) (second : b ≡ get_or book (get_or window (i + 1) 0) 0) where

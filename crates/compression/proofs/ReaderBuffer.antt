@@ -2,7 +2,7 @@
 use mathlib.Core.Path.{◌≡◌, sym, ap, ◌∙◌}
 use mathlib.Core.List.{List}
 use Prim.Native.Nat.{ℕ, ◌+◌, ◌-◌, ◌*◌, ◌/◌, ◌%◌, ◌^◌, ◌≤◌, ◌<◌}
-use native.Mathlib.Nat.{add_comm, mod-one}
+use native.Mathlib.Nat.{add_comm}
 use native.Mathlib.Omega.{arith}
 use lib.ListN.{length}
 use lib.Bits.{bit_and, bit_or, and_mask, or_shifted_r}
@@ -12,16 +12,6 @@ use Rattle.streams.specs.Stream.{number, word_bits, bits_at}
 use Rattle.compression.specs.Reading.{place_of, Stands}
 use Rattle.compression.specs.declared.reader.Cursor.{Cursor}
 use Rattle.streams.proofs.Stream.{past, refill, front, bits_at_lt}
-
--- a cursor with nothing in its buffer stands at the first bit
-pub begin_stands : (s : List ℕ) (c : Cursor) → c.held ≡ 0 → c.next ≡ 0 → c.buffer ≡ 0 → Stands s c
-begin_stands s c h n b = record {
-  few = omega arith;
-  from = omega arith;
-  whole = omega arith;
-  inside = omega arith;
-  holds = b ∙ sym (ap (bits_at (number s) (place_of c)) h ∙ mod-one _);
-}
 
 abbrev pub skipped : Cursor → ℕ → Cursor
 skipped c count = record { buffer = c.buffer / 2 ^ count; held = c.held - count; next = c.next }

@@ -3,13 +3,14 @@ use mathlib.Core.Path.{◌≡◌, sym, ap, ◌∙◌}
 use mathlib.Core.List.{List}
 use Prim.Native.Nat.{ℕ, ◌+◌, ◌*◌, ◌^◌, ◌≤◌, ◌<◌}
 use borrow.Author.Tests.{lt-ltb, le-ltb, eq-eqb, ne_eqb}
+use Rattle.std.specs.Prelude.{Result, Ok, Err}
+use Rattle.refusals.specs.declared.Reason.{Reason}
 use Rattle.streams.specs.Written.{predicted}
-use Rattle.streams.specs.Looks.{Looked, found, cut, code_at, row_step_at}
+use Rattle.streams.specs.Looks.{Looked, found, code_at, row_step_at}
 use Rattle.streams.specs.Read.{Step, pair, fault, then_step, step_judged, pair_at}
 use Rattle.compression.specs.Reading.{SteppedBy, CursorAfter, judged_step}
 use Rattle.compression.specs.declared.reader.Cursor.{Cursor}
-use Rattle.compression.specs.declared.pair_reader.Stepped.{Stepped}
-use Rattle.compression.specs.declared.pair_reader.Stepped.TheVariants.{Next, Stops}
+use Rattle.compression.specs.declared.pair_reader.State.{State}
 
 module _ (k row next across down bit : ℕ) where
   pub judged_7 : 2 ^ 32 ≤ down → judged_step k row next across down bit ≡ fault 7 bit
@@ -38,20 +39,13 @@ module _ (n end : ℕ) (book : List ℕ) (b k row next at : ℕ) where
   abbrev after_code : ℕ → ℕ → Step
   after_code across after = then_step (row_step_at n end b after) (after_row across)
 
-  pub pair_cut : (p : ℕ) → code_at n end book at ≡ cut p → pair_at n end book b k row next at ≡ fault 6 p
-  pair_cut p e = ap (λ (l : Looked). then_step l after_code) e
-
-  pub pair_cut_row : (across after p : ℕ) → code_at n end book at ≡ found across after → row_step_at n end b after ≡ cut p
-      → pair_at n end book b k row next at ≡ fault 6 p
-  pair_cut_row across after p e f = ap (λ (l : Looked). then_step l after_code) e ∙ ap (λ (l : Looked). then_step l (after_row across)) f
-
   pub pair_judged : (across after down bit : ℕ) → code_at n end book at ≡ found across after → row_step_at n end b after ≡ found down bit
       → pair_at n end book b k row next at ≡ judged_step k row next across down bit
   pair_judged across after down bit e f = ap (λ (l : Looked). then_step l after_code) e ∙ ap (λ (l : Looked). then_step l (after_row across)) f
 
 -- what the verdict answers is what the whole step answers
-pub stepped_as : (k place : ℕ) (Is Is' : Step → Type 0) → ((step : Step) → Is step → Is' step) → (r : Stepped) → SteppedBy k place Is r → SteppedBy k place Is' r
-stepped_as k place Is Is' f (Next item state) p = record {
+pub stepped_as : (k place : ℕ) (Is Is' : Step → Type 0) → ((step : Step) → Is step → Is' step) → (r : Result (State × ℕ) Reason) → SteppedBy k place Is r → SteppedBy k place Is' r
+stepped_as k place Is Is' f (Ok item) p = record {
   column = p.column;
   is = f _ p.is;
   item_is = p.item_is;
@@ -59,8 +53,8 @@ stepped_as k place Is Is' f (Next item state) p = record {
   row_below = p.row_below;
   column_below = p.column_below;
 }
-stepped_as k place Is Is' f (Stops reason) p = record { number = p.number; bit = p.bit; is = f _ p.is; told_as = p.told_as }
+stepped_as k place Is Is' f (Err reason) p = record { number = p.number; bit = p.bit; is = f _ p.is; told_as = p.told_as }
 
-pub cursor_as : (P Q : Cursor → Type 0) → ((c : Cursor) → P c → Q c) → (r : Stepped) → CursorAfter P r → CursorAfter Q r
-cursor_as P Q f (Next item state) p = f _ p
-cursor_as P Q f (Stops reason) p = tt
+pub cursor_as : (P Q : Cursor → Type 0) → ((c : Cursor) → P c → Q c) → (r : Result (State × ℕ) Reason) → CursorAfter P r → CursorAfter Q r
+cursor_as P Q f (Ok item) p = f _ p
+cursor_as P Q f (Err reason) p = tt

@@ -1,21 +1,38 @@
 -- Laws of the bytes that a writer has put: the number of a joined list, and one more word. Assumes nothing.
 use mathlib.Core.Path.{◌≡◌, sym, ap, ap₂, ◌∙◌}
-use mathlib.Core.List.{List, [], ◌∷◌, ◌++◌}
-use Prim.Native.Nat.{ℕ, ◌+◌, ◌*◌, ◌/◌, ◌%◌, ◌^◌, ◌≤◌}
+use mathlib.Core.List.{List, ◌++◌}
+use Prim.Native.Nat.{ℕ, ◌+◌, ◌-◌, ◌*◌, ◌/◌, ◌%◌, ◌^◌, ◌≤◌}
 use native.Mathlib.Nat.{mul_assoc, add-mul, add_comm, add_assoc}
-use native.Mathlib.Numerals.{towards_suc}
 use native.Mathlib.Omega.{arith}
-use lib.ListN.{length, take, drop, set, length-append}
-use lib.Seq.{sets-eq, length-take-le, take_at, drop_at}
+use lib.ListN.{length, take, drop, length-append, take-append-drop}
+use lib.Seq.{length-take-le, take_at, drop_at}
 use lib.Pow.{pow-add, mod-pow-add, shr-shr, split}
+use borrow.Rule.Slice.PartMut.{put_mid}
+use Rattle.std.specs.Int.{w32, to_le_bytes}
+use Rattle.std.proofs.lemmas.Slice.{take-put_mid, drop-put_mid}
 use Rattle.streams.specs.Stream.{number}
 use Rattle.streams.proofs.Stream.{number_append}
 use Rattle.compression.specs.Writing.{four_bytes}
 
--- four stores one after the other are one part replaced
-pub four_sets : (l : List ℕ) (i a b c d : ℕ) → i + 4 ≤ length l
-    → set (set (set (set l i a) (i + 1) b) (i + 2) c) (i + 3) d ≡ take i l ++ (a ∷ b ∷ c ∷ d ∷ []) ++ drop (i + 4) l
-four_sets l i a b c d h = let e = sets-eq (a ∷ b ∷ c ∷ d ∷ []) l i h in simp towards_suc (simp towards_suc at e)
+-- the bytes of a number's 32 low bits
+low_bytes : (w : ℕ) → to_le_bytes w32 (w % 2 ^ 32) ≡ four_bytes w
+low_bytes w =
+    let b : w % 2 ^ 32 / 0x100 % 0x100 ≡ w / 0x100 % 0x100 = omega arith in
+    let c : w % 2 ^ 32 / 0x1_0000 % 0x100 ≡ w / 0x1_0000 % 0x100 = omega arith in
+    let d : w % 2 ^ 32 / 0x100_0000 % 0x100 ≡ w / 0x100_0000 % 0x100 = omega arith in
+    let a : w % 2 ^ 32 % 0x100 ≡ w % 0x100 = omega arith in
+    cc
+
+-- four bytes of the output replaced by them
+pub word_put : (out part : List ℕ) (i w : ℕ) → i + 4 ≤ length out → part ≡ to_le_bytes w32 (w % 2 ^ 32)
+    → put_mid i (i + 4 - i) out part ≡ take i out ++ four_bytes w ++ drop (i + 4) out
+word_put out part i w room is =
+    let bytes : part ≡ four_bytes w = is ∙ low_bytes w in
+    let long : length part ≡ 4 = ap (λ (l : List ℕ). length l) bytes in
+    sym (take-append-drop (i + 4) (put_mid i (i + 4 - i) out part))
+    ∙ ap₂ (λ (a b : List ℕ). a ++ b)
+    (take-put_mid i (i + 4 - i) out part (i + 4) (omega (arith, long)) (omega arith) ∙ ap (λ (l : List ℕ). take i out ++ l) bytes)
+    (drop-put_mid i (i + 4 - i) out part (i + 4) (omega arith) (omega arith) (omega (arith, long)))
 
 -- a word's four bytes make its 32 low bits
 join_four : (n b0 b1 b2 b3 x1 x2 : ℕ) → n ≡ x1 * 256 + b0 → x1 ≡ x2 * 256 + b1 → x2 ≡ b3 * 256 + b2 → b0 + 256 * (b1 + 256 * (b2 + 256 * (b3 + 256 * 0))) ≡ n

@@ -1,167 +1,203 @@
--- The judgements of the two calls, one after the other, and what they leave. Assumes nothing.
-use mathlib.Core.Path.{◌≡◌, refl, sym, ap, ◌∙◌}
+-- The judgements of the two calls that write, one after the other, and what they leave. Assumes nothing.
+use mathlib.Core.Path.{◌≡◌, refl, sym, ap, ap₂, ◌∙◌}
 use mathlib.Core.Bool.{Bool, true, false, not, ◌&&◌}
 use mathlib.Core.List.{List, [], ◌∷◌}
-use Prim.Native.Nat.{ℕ, ◌+◌, ◌-◌, ◌*◌, ◌%◌, ◌^◌, ◌≤◌, ◌<◌}
+use Prim.Native.Nat.{ℕ, ◌+◌, ◌-◌, ◌*◌, ◌%◌, ◌^◌, ◌≤◌}
 use native.Mathlib.Nat.{mul-mod_left}
 use native.Mathlib.Omega.{arith}
-use borrow.Author.Tests.{lt-ltb, le-ltb, ltb-false, leb-true, leb-false, eqb-true, not-false}
-use lib.Dec.{eqb, ltb, leb}
+use borrow.Author.Tests.{le-ltb, eq-eqb, ne_eqb}
+use lib.Dec.{eqb, ltb}
 use lib.ListN.{length}
 use lib.Pow.{pow-add}
+use Rattle.std.specs.Prelude.{Result, Ok}
 use Rattle.laws.specs.Choose.{choose}
-use Rattle.laws.proofs.Truths.{and_left, and_right}
 use Rattle.refusals.specs.Outcome.{Outcome, accepted, refused, stopped, if_accepted, and_then}
 use Rattle.refusals.specs.Units.{words_for}
-use Rattle.refusals.specs.Told.{told}
+use Rattle.refusals.specs.Told.{told, told_length}
 use Rattle.refusals.specs.declared.Refusal.{Refusal}
-use Rattle.refusals.specs.declared.Refusal.TheVariants.{NoRoom}
-use Rattle.refusals.proofs.Refusing.{kept, stays, both_accepted, took}
-use Rattle.numbers.specs.Numbers.{base_bits_at, most_bits_at}
-use Rattle.numbers.specs.Calls.{outside, rows_of, base_bits_of, most_bits_of}
-use Rattle.numbers.proofs.RowsTold.{RowsAt, rows_given}
+use Rattle.refusals.specs.declared.Refusal.TheVariants.{WrongLength}
+use Rattle.refusals.specs.declared.units.StreamLength.{StreamLength}
+use Rattle.refusals.proofs.Refusing.{kept, stays}
+use Rattle.numbers.specs.Numbers.{base_bits_at}
+use Rattle.numbers.specs.Calls.{outside, base_bits_of}
+use Rattle.numbers.proofs.RowsTold.{RowsAt}
 use Rattle.books.specs.Calls.{check_of}
-use Rattle.books.specs.Steps.{AllShaped}
-use Rattle.books.proofs.Accepted.{book_accepted, book_values}
 use Rattle.pair_lists.specs.Lists.{pairs_judged, judge_pairs_of}
 use Rattle.streams.specs.Codes.{Code}
-use Rattle.streams.specs.Written.{pairs_bits, window_bits}
-use Rattle.streams.specs.Calls.{written_if, words_into, write_pairs_of, write_window_of}
-use Rattle.streams.proofs.Granted.{granted, most_small}
-use Rattle.compression.specs.Told.{told_write}
-use Rattle.compression.specs.Writing.{Writable, book_judged, lent_judged, window_judged, WrittenBy, LastBy}
-use Rattle.compression.specs.declared.WriteAnswer.{WriteAnswer}
-use Rattle.compression.specs.declared.WriteAnswer.TheVariants.{Refused}
+use Rattle.streams.specs.Written.{pairs_codes, pairs_bits, window_codes, window_bits}
+use Rattle.streams.specs.Calls.{written_if, words_into, write_pairs_of, pairs_written, write_window_of, window_written}
+use Rattle.compression.specs.Writing.{LastBy}
 
--- ---- the numbers of an lg_k from 4 to 26
-
-pub rows_at : (lg : ℕ) → outside lg ≡ false → RowsAt lg (2 ^ lg)
-unfolding rows_of
-rows_at lg e = rows_given lg (2 ^ lg) (sym (ap (λ (b : Bool). choose b (refused 1 0) (accepted (2 ^ lg ∷ []))) e))
+-- ---- what is judged first
 
 pub base_bits_is : (lg n : ℕ) → outside lg ≡ false → base_bits_of lg n ≡ accepted (base_bits_at (2 ^ lg) n ∷ [])
 unfolding base_bits_of
 base_bits_is lg n e = simp e
 
-pub most_bits_is : (lg n : ℕ) → outside lg ≡ false → n ≤ 2 ^ 28 → most_bits_of lg n ≡ accepted (most_bits_at (2 ^ lg) n ∷ words_for (most_bits_at (2 ^ lg) n) ∷ [])
-unfolding most_bits_of
-most_bits_is lg n e l = simp (e, le-ltb (2 ^ 28) n l)
-
 pub judge_pairs_is : (lg : ℕ) (pairs : List ℕ) → outside lg ≡ false → judge_pairs_of lg pairs ≡ pairs_judged (2 ^ lg) pairs
 unfolding judge_pairs_of
 judge_pairs_is lg pairs e = simp e
 
--- ---- a list that may be written
-
-module _ (book : List ℕ) (lg : ℕ) (pairs : List ℕ) (w : Writable book lg pairs) where
-  pub within_granted : pairs_bits book (2 ^ lg) pairs ≤ most_bits_at (2 ^ lg) (length pairs)
-  within_granted = granted book (2 ^ lg) pairs w.passes w.entries (rows_at lg w.inside).most w.judged
-
-  pub bits_small : pairs_bits book (2 ^ lg) pairs ≤ 2 ^ 34
-  bits_small = omega (arith, within_granted, most_small (2 ^ lg) (length pairs) w.few)
-
--- ---- what is accepted
-
-pub book_taken : (book : List ℕ) (lg : ℕ) (values : List ℕ) → book_judged book lg ≡ accepted values
-    → (outside lg ≡ false) × (length book ≡ 65) × (check_of book ≡ accepted [])
-book_taken book lg values e =
-    let a = took (outside lg) _ 1 0 values e in
-    let b = took (not (eqb (length book) 65)) (check_of book) 2 0 values a.1 in
-    (a.0, eqb-true (length book) 65 (not-false (eqb (length book) 65) b.0), book_values book values b.1)
-
-pub writable : (book : List ℕ) (lg : ℕ) (pairs : List ℕ) → lent_judged book lg pairs ≡ accepted [] → Writable book lg pairs
-writable book lg pairs e =
-    let t = both_accepted (book_judged book lg) _ [] e in
-    let b = book_taken book lg t.0.0 t.0.1 in
-    let d = took (ltb (2 ^ 28) (length pairs)) (pairs_judged (2 ^ lg) pairs) 4 0 [] t.1 in
-    record { inside = b.0; entries = b.1; passes = b.2; few = ltb-false (2 ^ 28) (length pairs) d.0; judged = d.1 }
-
-even : (lg : ℕ) → 1 ≤ lg → 2 ^ lg % 2 ≡ 0
-even lg l =
-    let e : lg ≡ lg - 1 + 1 = omega arith in
-    ap (λ (i : ℕ). 2 ^ i % 2) e ∙ ap (λ (x : ℕ). x % 2) (pow-add 2 (lg - 1) 1) ∙ mul-mod_left (2 ^ (lg - 1)) 2
-
-pub window_taken : (book : List ℕ) (lg : ℕ) (window : List ℕ) → window_judged book lg window ≡ accepted []
-    → AllShaped book × (length book ≡ 256) × (length window % 2 ≡ 0) × (length window ≤ 2 ^ 26)
-window_taken book lg window e =
-    let a = took (outside lg) _ 1 0 [] e in
-    let b = took (not (eqb (length book) 256 && eqb (length window) (2 ^ lg))) (check_of book) 2 0 [] a.1 in
-    let fit = not-false (eqb (length book) 256 && eqb (length window) (2 ^ lg)) b.0 in
-    let at = rows_at lg a.0 in
-    let size : length window ≡ 2 ^ lg = eqb-true (length window) (2 ^ lg) (and_right (eqb (length book) 256) (eqb (length window) (2 ^ lg)) fit) in (
-      (book_accepted book b.1).1,
-      eqb-true (length book) 256 (and_left (eqb (length book) 256) (eqb (length window) (2 ^ lg)) fit),
-      ap (λ (x : ℕ). x % 2) size ∙ even lg (omega (arith, at.low)),
-      omega (arith, at.most),
-    )
-
--- ---- the last judgement
-
--- what a test of the room says
-pub enough : (words room : ℕ) (r : Bool) → r ≡ leb words room → r ≡ true → words ≤ room
-enough words room r e t = leb-true words room (sym e ∙ t)
-
-pub too_little : (words room : ℕ) (r : Bool) → r ≡ leb words room → r ≡ false → room < words
-too_little words room r e f = leb-false words room (sym e ∙ f)
-
-module _ (codes : List Code) (bits : ℕ) (out : List ℕ) where
-  pub last_refused : length out < 4 * words_for bits → LastBy codes bits out out (Refused NoRoom)
-  last_refused l =
-      let e : written_if bits out ≡ refused 5 0 = simp (lt-ltb (length out) (4 * words_for bits) l) in
-      record { says = sym e; leaves = sym (ap (λ (o : Outcome). if_accepted o (words_into codes bits out) out) e) }
-
-  pub last_written : (out' : List ℕ) (answer : WriteAnswer) → 4 * words_for bits ≤ length out → WrittenBy codes bits out out' answer → LastBy codes bits out out' answer
-  last_written out' answer l w =
-      let e : written_if bits out ≡ accepted (bits ∷ words_for bits ∷ []) = simp (le-ltb (length out) (4 * words_for bits) l) in
-      record { says = w.says ∙ sym e; leaves = w.stands ∙ sym (ap (λ (o : Outcome). if_accepted o (words_into codes bits out) out) e) }
-
--- ---- the whole calls
-
--- a refusal ends both judgements, and an accepted book leaves the second
+-- a refusal ends both judgements
 pub judged_refused : (why : Refusal) (first more : Outcome) → told why ≡ first → told why ≡ and_then first more
 judged_refused why first more e = sym (ap (λ (o : Outcome). and_then o more) (sym e) ∙ stays why more)
 
-pub more_judged : (book : List ℕ) (lg : ℕ) → accepted [] ≡ book_judged book lg → (answer more : Outcome) → answer ≡ more → answer ≡ and_then (book_judged book lg) more
-more_judged book lg e answer more is = is ∙ ap (λ (o : Outcome). and_then o more) e
+-- 2, 3
+abbrev pub book_judged : ℕ → List ℕ → Outcome
+book_judged symbols book = choose (not (eqb (length book) symbols)) (refused 2 0) (check_of book)
+
+-- 4, then the first faulty pair
+abbrev pub list_judged : ℕ → List ℕ → Outcome
+list_judged k pairs = choose (ltb (2 ^ 28) (length pairs)) (refused 4 0) (pairs_judged k pairs)
+
+-- a window has an even number of bytes
+pub even_rows : {lg k : ℕ} → RowsAt lg k → k % 2 ≡ 0
+even_rows {lg} at =
+    let e : lg ≡ lg - 1 + 1 = omega (arith, at.low) in
+    ap (λ (x : ℕ). x % 2) at.power ∙ ap (λ (i : ℕ). 2 ^ i % 2) e ∙ ap (λ (x : ℕ). x % 2) (pow-add 2 (lg - 1) 1) ∙ mul-mod_left (2 ^ (lg - 1)) 2
+
+-- ---- the last judgement
+
+module _ (codes : List Code) (bits : ℕ) (out : List ℕ) where
+  pub last_written : (out' : List ℕ) (long : StreamLength) → 4 * words_for bits ≤ length out → long.bits.0 ≡ bits → long.words.0 ≡ words_for bits
+      → out' ≡ words_into codes bits out → LastBy codes bits out out' (Ok long)
+  last_written out' long l eb ew stands =
+      let e : written_if bits out ≡ accepted (bits ∷ words_for bits ∷ []) = simp (le-ltb (length out) (4 * words_for bits) l) in
+      record {
+        says = ap₂ (λ (x y : ℕ). accepted (x ∷ y ∷ [])) eb ew ∙ sym e;
+        leaves = stands ∙ sym (ap (λ (o : Outcome). if_accepted o (words_into codes bits out) out) e);
+      }
+
+-- ---- the whole calls
 
 -- a call that is a judgement and then the last one
 module _ (whole judged : Outcome) (codes : List Code) (bits : ℕ) (out : List ℕ) (chain : whole ≡ and_then judged (written_if bits out)) where
-  pub call_refused : (why : Refusal) → told why ≡ judged → (told why ≡ whole) × (out ≡ if_accepted whole (words_into codes bits out) out)
+  call_refused : (why : Refusal) → told why ≡ judged → (told why ≡ whole) × (out ≡ if_accepted whole (words_into codes bits out) out)
   call_refused why e =
       let is : told why ≡ whole = sym (chain ∙ ap (λ (o : Outcome). and_then o (written_if bits out)) (sym e) ∙ stays why (written_if bits out)) in
       (is, sym (kept why (words_into codes bits out) out) ∙ ap (λ (o : Outcome). if_accepted o (words_into codes bits out) out) is)
 
-  pub call_judged : (out' : List ℕ) (answer : WriteAnswer) → judged ≡ accepted [] → LastBy codes bits out out' answer
-      → (told_write answer ≡ whole) × (out' ≡ if_accepted whole (words_into codes bits out) out)
+  call_judged : (out' : List ℕ) (answer : Result StreamLength Refusal) → accepted [] ≡ judged → LastBy codes bits out out' answer
+      → (told_length answer ≡ whole) × (out' ≡ if_accepted whole (words_into codes bits out) out)
   call_judged out' answer e last =
-      let is : whole ≡ written_if bits out = chain ∙ ap (λ (o : Outcome). and_then o (written_if bits out)) e in
+      let is : whole ≡ written_if bits out = chain ∙ ap (λ (o : Outcome). and_then o (written_if bits out)) (sym e) in
       (last.says ∙ sym is, last.leaves ∙ sym (ap (λ (o : Outcome). if_accepted o (words_into codes bits out) out) is))
 
-pairs_chain_of : (a b : Bool) (check : Outcome) (d : Bool) (judged last : Outcome)
-    → choose a (refused 1 0) (choose b (refused 2 0) (and_then check (choose d (refused 4 0) (and_then judged last))))
-    ≡ and_then (and_then (choose a (refused 1 0) (choose b (refused 2 0) check)) (choose d (refused 4 0) judged)) last
-pairs_chain_of true b check d judged last = refl
-pairs_chain_of false true check d judged last = refl
-pairs_chain_of false false (accepted values) true judged last = refl
-pairs_chain_of false false (accepted values) false judged last = refl
-pairs_chain_of false false (refused number place) d judged last = refl
-pairs_chain_of false false (stopped number place bit) d judged last = refl
+pairs_chain : (wrong : Bool) (check : Outcome) (many : Bool) (judged last : Outcome)
+    → choose wrong (refused 2 0) (and_then check (choose many (refused 4 0) (and_then judged last)))
+    ≡ and_then (and_then (choose wrong (refused 2 0) check) (choose many (refused 4 0) judged)) last
+pairs_chain true check many judged last = refl
+pairs_chain false (accepted values) true judged last = refl
+pairs_chain false (accepted values) false judged last = refl
+pairs_chain false (refused number place) many judged last = refl
+pairs_chain false (stopped number place bit) many judged last = refl
 
-pub pairs_chain : (book : List ℕ) (lg : ℕ) (pairs out : List ℕ)
-    → write_pairs_of book lg pairs out ≡ and_then (lent_judged book lg pairs) (written_if (pairs_bits book (2 ^ lg) pairs) out)
-unfolding write_pairs_of
-pairs_chain book lg pairs out =
-    pairs_chain_of (outside lg) (not (eqb (length book) 65)) (check_of book) (ltb (2 ^ 28) (length pairs)) (pairs_judged (2 ^ lg) pairs)
-    (written_if (pairs_bits book (2 ^ lg) pairs) out)
+module _ (book : List ℕ) (lg : ℕ) (pairs out : List ℕ) where
+  abbrev whole : Outcome
+  whole = write_pairs_of book lg pairs out
 
-window_chain_of : (a b : Bool) (check last : Outcome)
-    → choose a (refused 1 0) (choose b (refused 2 0) (and_then check last)) ≡ and_then (choose a (refused 1 0) (choose b (refused 2 0) check)) last
-window_chain_of true b check last = refl
-window_chain_of false true check last = refl
-window_chain_of false false check last = refl
+  abbrev codes : List Code
+  codes = pairs_codes book (2 ^ lg) pairs
 
-pub window_chain : (book : List ℕ) (lg : ℕ) (window out : List ℕ)
-    → write_window_of book lg window out ≡ and_then (window_judged book lg window) (written_if (window_bits book window) out)
-unfolding write_window_of
-window_chain book lg window out =
-    window_chain_of (outside lg) (not (eqb (length book) 256 && eqb (length window) (2 ^ lg))) (check_of book) (written_if (window_bits book window) out)
+  abbrev bits : ℕ
+  bits = pairs_bits book (2 ^ lg) pairs
+
+  abbrev pub PairsCalled : Outcome → List ℕ → Type 0
+  PairsCalled outcome out' = (outcome ≡ whole) × (out' ≡ pairs_written book lg pairs out)
+
+  pairs_first : outside lg ≡ true → whole ≡ refused 1 0
+  unfolding write_pairs_of
+  pairs_first o = simp o
+
+  pub pairs_outside : (why : Refusal) → outside lg ≡ true → told why ≡ refused 1 0 → PairsCalled (told why) out
+  pairs_outside why o e = call_refused whole (refused 1 0) codes bits out (pairs_first o) why e
+
+  module _ (k : ℕ) (at : RowsAt lg k) where
+    abbrev judged : Outcome
+    judged = and_then (book_judged 65 book) (list_judged k pairs)
+
+    chain : whole ≡ and_then judged (written_if bits out)
+    unfolding write_pairs_of
+    chain =
+        simp at.inside
+        (pairs_chain (not (eqb (length book) 65)) (check_of book) (ltb (2 ^ 28) (length pairs)) (pairs_judged (2 ^ lg) pairs) (written_if bits out)
+        ∙ ap (λ (x : ℕ). and_then (and_then (book_judged 65 book) (list_judged x pairs)) (written_if bits out)) (sym at.power))
+
+    pub pairs_wrong : (why : Refusal) → told why ≡ book_judged 65 book → PairsCalled (told why) out
+    pairs_wrong why e =
+        call_refused whole judged codes bits out chain why (judged_refused why (book_judged 65 book) (list_judged k pairs) e)
+
+    module _ (passes : accepted [] ≡ book_judged 65 book) where
+      past : list_judged k pairs ≡ judged
+      past = ap (λ (o : Outcome). and_then o (list_judged k pairs)) passes
+
+      pub pairs_faulty : (why : Refusal) → told why ≡ list_judged k pairs → PairsCalled (told why) out
+      pairs_faulty why e = call_refused whole judged codes bits out chain why (e ∙ past)
+
+      pub pairs_called : (b p : List ℕ) (j : ℕ) (out' : List ℕ) (answer : Result StreamLength Refusal) → b ≡ book → p ≡ pairs → j ≡ k
+          → accepted [] ≡ list_judged k pairs
+          → LastBy (pairs_codes b j p) (pairs_bits b j p) out out' answer → PairsCalled (told_length answer) out'
+      pairs_called b p j out' answer eb ep ej e last =
+          call_judged whole judged codes bits out chain out' answer (e ∙ past) (rw (← eb, ← ep, ← at.power, ← ej) last)
+
+window_chain : (wrong : Bool) (check last : Outcome) → choose wrong (refused 2 0) (and_then check last) ≡ and_then (choose wrong (refused 2 0) check) last
+window_chain true check last = refl
+window_chain false check last = refl
+
+and_false : (b : Bool) → (b && false) ≡ false
+and_false true = refl
+and_false false = refl
+
+and_true : (b : Bool) → (b && true) ≡ b
+and_true true = refl
+and_true false = refl
+
+module _ (book : List ℕ) (lg : ℕ) (window out : List ℕ) where
+  abbrev whole_window : Outcome
+  whole_window = write_window_of book lg window out
+
+  abbrev all : List Code
+  all = window_codes book window
+
+  abbrev size : ℕ
+  size = window_bits book window
+
+  abbrev pub WindowCalled : Outcome → List ℕ → Type 0
+  WindowCalled outcome out' = (outcome ≡ whole_window) × (out' ≡ window_written book lg window out)
+
+  window_first : outside lg ≡ true → whole_window ≡ refused 1 0
+  unfolding write_window_of
+  window_first o = simp o
+
+  pub window_outside : (why : Refusal) → outside lg ≡ true → told why ≡ refused 1 0 → WindowCalled (told why) out
+  window_outside why o e = call_refused whole_window (refused 1 0) all size out (window_first o) why e
+
+  module _ (k : ℕ) (at : RowsAt lg k) where
+    sized : (t : Bool) → eqb (length window) k ≡ t
+        → whole_window ≡ and_then (choose (not (eqb (length book) 256 && t)) (refused 2 0) (check_of book)) (written_if size out)
+    unfolding write_window_of
+    sized t e =
+        simp at.inside
+        (ap (λ (b : Bool). choose (not (eqb (length book) 256 && b)) (refused 2 0) (and_then (check_of book) (written_if size out)))
+        (ap (eqb (length window)) (sym at.power) ∙ e)
+        ∙ window_chain (not (eqb (length book) 256 && t)) (check_of book) (written_if size out))
+
+    pub window_other : (length window ≡ k → ⊥) → WindowCalled (refused 2 0) out
+    window_other other =
+        call_refused whole_window (refused 2 0) all size out
+        (sized false (ne_eqb (length window) k other)
+        ∙ ap (λ (b : Bool). and_then (choose (not b) (refused 2 0) (check_of book)) (written_if size out)) (and_false (eqb (length book) 256))) WrongLength refl
+
+    module _ (exact : length window ≡ k) where
+      window_next : whole_window ≡ and_then (book_judged 256 book) (written_if size out)
+      window_next =
+          sized true (eq-eqb (length window) k exact)
+          ∙ ap (λ (b : Bool). and_then (choose (not b) (refused 2 0) (check_of book)) (written_if size out)) (and_true (eqb (length book) 256))
+
+      pub window_wrong : (why : Refusal) → told why ≡ book_judged 256 book → WindowCalled (told why) out
+      window_wrong why e = call_refused whole_window (book_judged 256 book) all size out window_next why e
+
+      pub window_called : (b : List ℕ) (out' : List ℕ) (answer : Result StreamLength Refusal) → b ≡ book → accepted [] ≡ book_judged 256 book
+          → LastBy (window_codes b window) (window_bits b window) out out' answer → WindowCalled (told_length answer) out'
+      window_called b out' answer eb e last =
+          call_judged whole_window (book_judged 256 book) all size out window_next out' answer e (rw (← eb) last)

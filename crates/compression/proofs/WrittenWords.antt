@@ -1,23 +1,22 @@
 -- A stream closed: the pad and the last word. And the words that stand in the output then. Assumes nothing.
 use mathlib.Core.Path.{◌≡◌, sym, ap, ap₂, ◌∙◌, subst}
 use mathlib.Core.Logic.{⊎_elim}
-use mathlib.Core.List.{List, [], ◌∷◌, ◌++◌}
+use mathlib.Core.List.{List, ◌++◌}
 use Prim.Native.Nat.{ℕ, ◌+◌, ◌-◌, ◌*◌, ◌^◌, ◌≤◌, ◌<◌}
 use native.Mathlib.Omega.{arith}
 use lib.ListN.{length, get_or, take, drop, length-take, take-append-drop, get_or-eq_default}
 use lib.Seq.{drop-drop, get_or-take, length-take-le}
 use Rattle.laws.proofs.Orders.{lt_or_le}
-use Rattle.refusals.specs.Outcome.{accepted}
 use Rattle.refusals.specs.Units.{words_for}
 use Rattle.refusals.specs.declared.units.Bits.{Bits}
+use Rattle.refusals.specs.declared.units.StreamLength.{StreamLength}
 use Rattle.refusals.specs.declared.units.Words.{Words}
 use Rattle.streams.specs.Stream.{number, word_bits, bytes_of}
 use Rattle.streams.specs.Codes.{Code, total, pack}
 use Rattle.streams.specs.Written.{words_of}
+use Rattle.streams.specs.Calls.{words_into}
 use Rattle.streams.proofs.Stream.{AllBytes, bytes_number}
-use Rattle.compression.specs.Writing.{Lawful, bits_put, so_far, PutBy, FinishedBy, ClosedBy, PutsBy, WrittenBy}
-use Rattle.compression.specs.declared.WriteAnswer.{WriteAnswer}
-use Rattle.compression.specs.declared.WriteAnswer.TheVariants.{Written}
+use Rattle.compression.specs.Writing.{Lawful, bits_put, so_far, PutBy, FinishedBy, ClosedBy, PutsBy}
 use Rattle.compression.specs.declared.writer.Writer.{Writer}
 
 module _ (out o₁ o₂ : List ℕ) (w w₁ : Writer) (pad bytes : ℕ) (padded : PutBy out o₁ w w₁ 0 pad) (last : FinishedBy o₁ o₂ w₁ bytes) where
@@ -33,9 +32,10 @@ module _ (out o₁ o₂ : List ℕ) (w w₁ : Writer) (pad bytes : ℕ) (padded 
       ∙ ap (λ (k : ℕ). drop k out) (sym ej)
 
   pub closed : (bits : Bits) (words : Words) → bits.0 ≡ bits_put w₁ → words.0 ≡ words_for bits.0 → ((i : ℕ) → get_or o₂ i 0 < 256)
-      → ClosedBy out o₂ w pad (Written bits words)
+      → ClosedBy out o₂ w pad (record { bits = bits; words = words })
   closed bits words is fill small = record {
-    says = ap₂ (λ (x y : ℕ). accepted (x ∷ y ∷ [])) (is ∙ padded.sum) (fill ∙ ap words_for (is ∙ padded.sum));
+    bits = is ∙ padded.sum;
+    words = fill ∙ ap words_for (is ∙ padded.sum);
     stream = ap (λ (k : ℕ). number (take k o₂)) same ∙ last.stream ∙ padded.stream ∙ omega arith;
     rest = ap (λ (k : ℕ). drop k o₂) same ∙ last.rest ∙ kept ∙ ap (λ (k : ℕ). drop k out) (sym same);
     size = last.size ∙ padded.size;
@@ -61,8 +61,8 @@ take_bytes s n all i =
     ⊎_elim (λ (l : i < n). rw (get_or-take n s i 0 l) (all i))
     (λ (l : n ≤ i). rw (get_or-eq_default (take n s) 0 {n = i} (omega (arith, length-take n s))) (omega arith)) (lt_or_le i n)
 
-module _ (out o₁ o₂ : List ℕ) (w₀ w₁ : Writer) (pad : ℕ) (codes : List Code) (answer : WriteAnswer) (held : w₀.held ≡ 0) (next : w₀.next ≡ 0) (buffer : w₀.buffer ≡ 0)
-    (listed : PutsBy out o₁ w₀ w₁ codes) (done : ClosedBy o₁ o₂ w₁ pad answer) (room : total codes + pad ≤ word_bits out) where
+module _ (out o₁ o₂ : List ℕ) (w₀ w₁ : Writer) (pad : ℕ) (codes : List Code) (long : StreamLength) (held : w₀.held ≡ 0) (next : w₀.next ≡ 0) (buffer : w₀.buffer ≡ 0)
+    (listed : PutsBy out o₁ w₀ w₁ codes) (done : ClosedBy o₁ o₂ w₁ pad long) (room : total codes + pad ≤ word_bits out) where
   abbrev bits : ℕ
   bits = total codes + pad
 
@@ -78,11 +78,11 @@ module _ (out o₁ o₂ : List ℕ) (w₀ w₁ : Writer) (pad : ℕ) (codes : Li
       ap (λ (i : ℕ). number (take (4 * words_for i) o₂)) (sym all_put) ∙ done.stream ∙ listed.stream
       ∙ ap₂ (λ (x i : ℕ). x + pack codes * 2 ^ i) (fresh_empty out w₀ next buffer) none ∙ omega arith
 
-  long : length (take many o₂) ≡ many
-  long = length-take-le many o₂ (omega (arith, room, done.size, listed.size))
+  filled : length (take many o₂) ≡ many
+  filled = length-take-le many o₂ (omega (arith, room, done.size, listed.size))
 
   front : take many o₂ ≡ words_of codes bits
-  front = bytes_number (take many o₂) (take_bytes o₂ many done.bytes) ∙ ap₂ bytes_of long numbered
+  front = bytes_number (take many o₂) (take_bytes o₂ many done.bytes) ∙ ap₂ bytes_of filled numbered
 
   back : drop many o₂ ≡ drop many out
   back =
@@ -93,8 +93,12 @@ module _ (out o₁ o₂ : List ℕ) (w₀ w₁ : Writer) (pad : ℕ) (codes : Li
       ∙ ap (λ (k : ℕ). drop k o₁) ej ∙ sym (drop-drop j w₁.next o₁) ∙ ap (drop j) listed.rest ∙ drop-drop j w₁.next out
       ∙ ap (λ (k : ℕ). drop k out) (sym ej)
 
-  pub written : WrittenBy codes bits out o₂ answer
-  written = record {
-    says = done.says ∙ ap (λ (i : ℕ). accepted (i ∷ words_for i ∷ [])) all_put;
-    stands = sym (take-append-drop many o₂) ∙ ap₂ (λ (a b : List ℕ). a ++ b) front back;
-  }
+  pub written : o₂ ≡ words_into codes bits out
+  written = sym (take-append-drop many o₂) ∙ ap₂ (λ (a b : List ℕ). a ++ b) front back
+
+  -- the length that is told
+  pub bits_told : long.bits.0 ≡ bits
+  bits_told = done.bits ∙ all_put
+
+  pub words_told : long.words.0 ≡ words_for bits
+  words_told = done.words ∙ ap words_for all_put

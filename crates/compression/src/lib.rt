@@ -4,41 +4,40 @@
 #![tactic(auto)]
 
 ghost use Rattle.std.specs.Prelude.{◌≡◌};
+ghost use Rattle.refusals.specs.Told.{told_plain, told_length};
 ghost use Rattle.streams.specs.Calls.{read_pairs_of, pairs_read, read_window_of, window_read, write_pairs_of, pairs_written, write_window_of, window_written};
-ghost use Rattle.compression.specs.Told.{told_read, told_write};
 
-mod common;
-mod counting;
+mod base_bits;
+mod before;
+mod book;
+mod coded_stream;
+mod coding;
+mod lending;
+mod pair_codes;
+mod pair_list;
+mod pair_putter;
 mod pair_reader;
 mod pair_writer;
 mod reader;
 mod step_reader;
+mod window;
 mod window_reader;
 mod window_writer;
 mod writer;
 
-use books::CheckAnswer;
-use numbers::RowsAnswer;
-use pair_lists::PairsAnswer;
-use pair_reader::Sizes;
+use base_bits::BaseBits;
+use book::whole_book;
+use lending::{coded_stream, judge_room};
+use numbers::size::SketchSize;
+use pair_list::lawful_list;
+use pair_reader::PairReader;
+use pair_writer::PairWriter;
 use refusals::Refusal;
-use refusals::units::{Bits, Words};
+use refusals::units::StreamLength;
+use window::Window;
+use window_writer::WindowWriter;
 
-#[derive(Clone, Copy)]
-pub enum WriteAnswer {
-    // the bits with pad, before the last word is filled, and the words
-    Written(Bits, Words),
-    Refused(Refusal),
-}
-
-#[derive(Clone, Copy)]
-pub enum ReadAnswer {
-    Read,
-    // 6 to 10 sit in `Refusal::Reading`, with the item's index and the bit position
-    Refused(Refusal),
-}
-
-// `count` pairs, read from a stream to the front of the output.
+// `count` pairs, read from a stream to the front of the output. 6 to 10 sit in `Refusal::Reading`, with the item's index and the bit position.
 pub fn read_pairs(
     book: &[u16],
     table: &[u16],
@@ -46,68 +45,65 @@ pub fn read_pairs(
     count: u32,
     stream: &[u8],
     out: &mut [u32],
-) -> ReadAnswer
-    ensures { (told_read result ≡ read_pairs_of book.now table.now lg count stream.now out.old)
+) -> Result<(), Refusal>
+    ensures { (told_plain result ≡ read_pairs_of book.now table.now lg count stream.now out.old)
         × (out.new ≡ pairs_read book.now table.now lg count stream.now out.old) }
 {
-    match pair_reader::sizes_of(lg, count) {
-        Sizes::Refused(why) => ReadAnswer::Refused(why),
-        Sizes::Of(k, b) => match pair_reader::judge_parts(book, table, count, stream, out.len()) {
-            CheckAnswer::Refused(why) => ReadAnswer::Refused(why),
-            CheckAnswer::Passes => pair_reader::read_into(
-                stream,
-                table,
-                b as u32,
-                k,
-                count as usize,
-                out,
-            ),
-        },
-    }
+    let size = SketchSize::of(lg)?;
+    let coded = coded_stream::<65>(book, table, stream)?;
+    judge_room(count, out.len())?;
+    let base = BaseBits::of(size, count);
+    PairReader { coded, size, base }.read_into(count as usize, out)
 }
 
-// A window of k bytes, read from a stream.
+// A window of k bytes, read from a stream. 6 sits in `Refusal::Reading`, as for pairs.
 pub fn read_window(
     book: &[u16],
     table: &[u16],
     lg: u8,
     stream: &[u8],
     window: &mut [u8],
-) -> ReadAnswer
-    ensures { (told_read result ≡ read_window_of book.now table.now lg stream.now window.old)
+) -> Result<(), Refusal>
+    ensures { (told_plain result ≡ read_window_of book.now table.now lg stream.now window.old)
         × (window.new ≡ window_read book.now table.now lg stream.now window.old) }
 {
-    match numbers::rows(lg) {
-        RowsAnswer::Refused(why) => ReadAnswer::Refused(why),
-        RowsAnswer::Rows(k) => match window_reader::judge_parts(
-            book,
-            table,
-            stream,
-            window.len(),
-            k,
-        ) {
-            CheckAnswer::Refused(why) => ReadAnswer::Refused(why),
-            CheckAnswer::Passes => window_reader::read_into(stream, table, window),
-        },
+    let size = SketchSize::of(lg)?;
+    if (window.len() as u64) != size.k {
+        return Err(Refusal::WrongLength);
     }
+    let coded = coded_stream::<256>(book, table, stream)?;
+    window_reader::read_into(coded, window)
 }
 
-// Pairs written as whole words at the front of the output; all is judged before anything is written.
-pub fn write_pairs(book: &[u16], lg: u8, pairs: &[u32], out: &mut [u8]) -> WriteAnswer
-    ensures { (told_write result ≡ write_pairs_of book.now lg pairs.now out.old) × (out.new ≡ pairs_written book.now lg pairs.now out.old) }
+// Pairs written as whole words at the front of the output; all is judged before anything is written. The answer has the bits with pad, before the last word is filled.
+pub fn write_pairs(
+    book: &[u16],
+    lg: u8,
+    pairs: &[u32],
+    out: &mut [u8],
+) -> Result<StreamLength, Refusal>
+    ensures { (told_length result ≡ write_pairs_of book.now lg pairs.now out.old) × (out.new ≡ pairs_written book.now lg pairs.now out.old) }
 {
-    match pair_writer::judge_lent(book, lg, pairs) {
-        PairsAnswer::Refused(why) => WriteAnswer::Refused(why),
-        PairsAnswer::Lawful => pair_writer::write_judged(book, lg, pairs, out),
-    }
+    let size = SketchSize::of(lg)?;
+    let book = whole_book::<65>(book)?;
+    let list = lawful_list(size, pairs)?;
+    coding::write(&PairWriter::new(book, list), out)
 }
 
-// A window written as whole words at the front of the output; all is judged before anything is written.
-pub fn write_window(book: &[u16], lg: u8, window: &[u8], out: &mut [u8]) -> WriteAnswer
-    ensures { (told_write result ≡ write_window_of book.now lg window.now out.old) × (out.new ≡ window_written book.now lg window.now out.old) }
+// A window written as whole words at the front of the output; all is judged before anything is written. The answer is as for pairs.
+pub fn write_window(
+    book: &[u16],
+    lg: u8,
+    window: &[u8],
+    out: &mut [u8],
+) -> Result<StreamLength, Refusal>
+    ensures { (told_length result ≡ write_window_of book.now lg window.now out.old) × (out.new ≡ window_written book.now lg window.now out.old) }
 {
-    match window_writer::judge_lent(book, lg, window) {
-        CheckAnswer::Refused(why) => WriteAnswer::Refused(why),
-        CheckAnswer::Passes => window_writer::write_judged(book, window, out),
+    let size = SketchSize::of(lg)?;
+    if (window.len() as u64) != size.k {
+        return Err(Refusal::WrongLength);
     }
+    let book = whole_book::<256>(book)?;
+    let window = Window { bytes: window };
+    coding::write(&WindowWriter { book, window }, out)
 }

@@ -1,177 +1,110 @@
 // Pairs, read one by one: a state by value goes in, and comes out with the pair, or there is a reason why not.
 // After src/cpc/compression.rs of the Rust crate datasketches 0.5.0 (Apache-2.0); changed: a state by value, a lent slice for `Vec`, and a reason in place of an error.
-ghost use Rattle.std.specs.Prelude.{◌≡◌, List, ℕ, ◌*◌, ◌≤◌, ◌<◌, ◌^◌, length};
-ghost use Rattle.books.specs.Told.{told_check};
-ghost use Rattle.books.specs.Uses.{Decodes};
+ghost use Rattle.std.specs.Prelude.{◌≡◌, List, ℕ, ◌≤◌, ◌<◌, length};
 ghost use Rattle.streams.specs.Stream.{number, word_bits};
 ghost use Rattle.streams.specs.Read.{pairs_from};
-ghost use Rattle.compression.specs.Reading.{Stands, place_of, Holds, SteppedBy, CursorAfter, judged_step, pair_is, ReadBy, SizesBy, room_judged, pairs_parts_judged};
+ghost use Rattle.compression.specs.Reading.{Stands, place_of, Holds, SteppedBy, CursorAfter, judged_step, pair_is, ReadBy};
 
-use super::common::predict;
+use super::base_bits::BaseBits;
+use super::before::Before;
+use super::coded_stream::CodedStream;
 use super::reader::Cursor;
 use super::step_reader::Steps;
-use super::{ReadAnswer, reader, step_reader};
-use books::CheckAnswer;
-use numbers::{NumberAnswer, RowsAnswer};
+use numbers::size::SketchSize;
 use refusals::{Reason, Refusal};
 
+// What the next pair is read from: where it starts, and the cursor after the pair before it.
 #[derive(Clone, Copy)]
 pub struct State {
-    // the row of the pair before
-    pub row: u64,
-    // the column that is predicted in that row
-    pub column: u64,
+    pub before: Before,
     pub cursor: Cursor,
 }
 
+// A stream of pairs, for a sketch of some size.
 #[derive(Clone, Copy)]
-pub enum Stepped {
-    // the pair, and the state after it
-    Next(u32, State),
-    Stops(Reason),
+pub struct PairReader<'a> {
+    pub coded: CodedStream<'a>,
+    pub size: SketchSize,
+    pub base: BaseBits,
 }
 
-#[derive(Clone, Copy)]
-pub enum Sizes {
-    // k, and the base bits
-    Of(u64, u8),
-    Refused(Refusal),
-}
-
-// 1; else k, and the base bits of so many pairs.
-pub fn sizes_of(lg: u8, count: u32) -> Sizes
-    ensures { SizesBy lg count result }
-{
-    match numbers::rows(lg) {
-        RowsAnswer::Refused(why) => Sizes::Refused(why),
-        RowsAnswer::Rows(k) => match numbers::number_of_base_bits(lg, count) {
-            NumberAnswer::Refused(why) => Sizes::Refused(why),
-            NumberAnswer::Given(b) => Sizes::Of(k, b),
-        },
-    }
-}
-
-// 4, then 5.
-fn judge_room(count: u32, room: usize) -> CheckAnswer
-    ensures { told_check result ≡ room_judged count room }
-{
-    if 0x1000_0000 < count {
-        return CheckAnswer::Refused(Refusal::TooManyPairs);
-    }
-    if room < count as usize {
-        return CheckAnswer::Refused(Refusal::NoRoom);
-    }
-    CheckAnswer::Passes
-}
-
-// 2, 3, 4, 5, for pairs to read.
-pub fn judge_parts(
-    book: &[u16],
-    table: &[u16],
-    count: u32,
-    stream: &[u8],
-    room: usize,
-) -> CheckAnswer
-    ensures { told_check result ≡ pairs_parts_judged book.now table.now count stream.now room }
-{
-    if !reader::right_parts(65, book.len(), table.len(), stream.len()) {
-        return CheckAnswer::Refused(Refusal::WrongLength);
-    }
-    match books::check_table(book, table) {
-        CheckAnswer::Refused(why) => CheckAnswer::Refused(why),
-        CheckAnswer::Passes => judge_room(count, room),
-    }
-}
-
-// The pair that a column step and a row step lead to, with the cursor after it, which stands at `bit`.
+// The pair that its two steps lead to, with the cursor after it, which stands at `bit`.
 fn judge(
-    k: u64,
-    state: State,
-    across: u64,
-    down: u64,
-    last: Cursor,
+    size: SketchSize,
+    before: Before,
+    steps: Steps,
     bit: u64,
     place: u64,
-) -> Stepped
-    requires { (k ≤ 2 ^ 26) × (state.row < 2 ^ 26) × (state.column ≤ 64) × (across < 256) × (bit ≡ place_of last) }
-    ensures { SteppedBy k place (λ step. judged_step k state.row state.column across down bit ≡ step) result × CursorAfter (λ cursor. cursor ≡ last) result }
+) -> Result<(State, u32), Reason>
+    requires { (steps.across < 256) × (bit ≡ place_of steps.last) }
+    ensures { SteppedBy size.k place (λ step. judged_step size.k before.row before.column steps.across steps.down bit ≡ step) result
+        × CursorAfter (λ cursor. cursor ≡ steps.last) result }
 {
-    if 0x1_0000_0000 <= down {
-        return Stepped::Stops(Reason::RowStepTooLarge { place, bit });
+    if 0x1_0000_0000 <= steps.down {
+        return Err(Reason::RowStepTooLarge { place, bit });
     }
-    let row = state.row + down;
-    let column = predict(down, state.column) + across;
-    if k <= row {
-        return Stepped::Stops(Reason::RowNotBelow { place, bit });
+    let row = before.row + steps.down;
+    let column = before.predict(steps.down) + steps.across;
+    if size.k <= row {
+        return Err(Reason::RowNotBelow { place, bit });
     }
     if 64 <= column {
-        return Stepped::Stops(Reason::ColumnNotBelow { place, bit });
+        return Err(Reason::ColumnNotBelow { place, bit });
     }
     let pair = 64 * row + column;
     if pair == 0xFFFF_FFFF {
-        return Stepped::Stops(Reason::Reserved { place, bit });
+        return Err(Reason::Reserved { place, bit });
     }
-    Stepped::Next(
-        pair as u32,
-        State {
+    let state = State {
+        before: Before {
             row,
             column: column + 1,
-            cursor: last,
         },
-    )
-}
-
-// One pair, the one with the index `place`: a code, then zeros and b low bits.
-fn next_pair(stream: &[u8], table: &[u16], b: u32, k: u64, state: State, place: u64) -> Stepped
-    requires stream_len_bound { (length stream.now ≤ 2 ^ 30) × Decodes 256 table.now × (b ≤ 26) × (k ≤ 2 ^ 26) }
-    requires stands { Stands stream.now state.cursor × (state.row < 2 ^ 26) × (state.column ≤ 64) }
-    ensures { SteppedBy k place (pair_is stream.now table.now b k state) result × CursorAfter (Stands stream.now) result }
-{
-    let from = state.cursor;
-    match step_reader::take_steps(stream, table, b, from) {
-        Steps::Ends(bit) => Stepped::Stops(Reason::StreamEnds { place, bit }),
-        Steps::Taken(across, down, last) => judge(
-            k,
-            state,
-            across,
-            down,
-            last,
-            reader::bit_of(last),
-            place,
-        ),
-    }
-}
-
-// `count` pairs go to the front of the output; a fault stops it there.
-pub fn read_into(
-    stream: &[u8],
-    table: &[u16],
-    b: u32,
-    k: u64,
-    count: usize,
-    out: &mut [u32],
-) -> ReadAnswer
-    requires { (length stream.now ≤ 2 ^ 30) × Decodes 256 table.now × (b ≤ 26) × (k ≤ 2 ^ 26) × (count ≤ length out.old) }
-    ensures { (book : List ℕ) → Holds book table.now
-        → ReadBy (pairs_from (number stream.now) (word_bits stream.now) book b k count 0 0 0) out.old out.new result }
-{
-    let mut state = State {
-        row: 0,
-        column: 0,
-        cursor: reader::begin(),
+        cursor: steps.last,
     };
-    let mut i: usize = 0;
-    while i < count {
-        match next_pair(stream, table, b, k, state, i as u64) {
-            Stepped::Stops(reason) => {
-                return ReadAnswer::Refused(Refusal::Reading(reason));
-            }
-            Stepped::Next(pair, after) => {
-                out[i] = pair;
-                state = after;
-                i += 1;
-            }
+    Ok((state, pair as u32))
+}
+
+impl PairReader<'_> {
+    // One pair, the one with the index `place`: a code, then zeros and low bits.
+    fn next_pair(self, state: State, place: u64) -> Result<(State, u32), Reason>
+        requires { Stands self.coded.bytes.now state.cursor }
+        ensures { SteppedBy self.entry.size.k place (pair_is self.entry.coded.bytes.now self.entry.coded.table.now self.entry.base.count self.entry.size.k state) result
+            × CursorAfter (Stands self.entry.coded.bytes.now) result }
+    {
+        // A match: by `map_err` and `?`, with either form of the loop below, 600000 pairs were read at 0.955 of its pace.
+        match self.coded.take_steps(self.base, state.cursor) {
+            Err(cut) => Err(Reason::StreamEnds {
+                place,
+                bit: cut.bit,
+            }),
+            Ok(steps) => judge(self.size, state.before, steps, steps.last.bit(), place),
         }
     }
-    ReadAnswer::Read
+
+    // `count` pairs go to the front of the output; a fault stops it there.
+    pub fn read_into(self, count: usize, out: &mut [u32]) -> Result<(), Refusal>
+        requires { count ≤ length out.old }
+        ensures { (book : List ℕ) → Holds book self.entry.coded.table.now
+            → ReadBy (pairs_from (number self.entry.coded.bytes.now) (word_bits self.entry.coded.bytes.now) book self.entry.base.count self.entry.size.k count 0 0 0)
+            out.old out.new result }
+    {
+        let mut state = State {
+            before: Before::start(),
+            cursor: Cursor::begin(),
+        };
+        for i in 0..count {
+            // A match: by `map_err` and `?` it proves, and lists of 1,000 pairs were read at 0.97 of the Rust's pace, where this reads at 1.1.
+            match self.next_pair(state, i as u64) {
+                Err(reason) => {
+                    return Err(Refusal::Reading(reason));
+                }
+                Ok((after, pair)) => {
+                    out[i] = pair;
+                    state = after;
+                }
+            }
+        }
+        Ok(())
+    }
 }

@@ -5,6 +5,7 @@ pub mod Sums
 pub mod Lists
 pub mod Shifts
 pub mod Whole
+pub mod Choices
 pub mod Columns
 pub mod Exponents
 pub mod Quotients

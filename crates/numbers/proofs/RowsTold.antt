@@ -7,14 +7,12 @@ use native.Mathlib.Omega.{arith}
 use borrow.Author.Tests.{ltb-false}
 use lib.Dec.{ltb}
 use lib.Pow.{pow_mono}
+use Rattle.std.specs.Prelude.{Result, Ok, Err}
 use Rattle.laws.specs.Choose.{choose}
 use Rattle.refusals.specs.Outcome.{Outcome, accepted, refused}
-use Rattle.refusals.specs.Told.{told}
+use Rattle.refusals.specs.Told.{told, told_number}
 use Rattle.refusals.specs.declared.Refusal.{Refusal}
 use Rattle.numbers.specs.Calls.{outside, rows_of}
-use Rattle.numbers.specs.Told.{told_rows}
-use Rattle.numbers.specs.declared.RowsAnswer.{RowsAnswer}
-use Rattle.numbers.specs.declared.RowsAnswer.TheVariants.{Rows, Refused}
 use Rattle.refusals.proofs.Only.{never_accepted}
 
 -- k is the number of rows at an lg_k from 4 to 26
@@ -42,7 +40,7 @@ given_by lg k false false p q e =
       most = omega (arith, pow_mono h);
     }
 
-pub rows_given : (lg k : ℕ) → told_rows (Rows k) ≡ rows_of lg → RowsAt lg k
+pub rows_given : (lg k : ℕ) → told_number (Ok k) ≡ rows_of lg → RowsAt lg k
 unfolding rows_of
 rows_given lg k e = given_by lg k (ltb lg 4) (ltb 26 lg) refl refl e
 
@@ -50,15 +48,15 @@ refused_by : (lg : ℕ) (why : Refusal) (out : Bool) → told why ≡ choose out
 refused_by lg why true e = (refl, e)
 refused_by lg why false e = absurd (never_accepted why _ (sym e))
 
-pub rows_refused : (lg : ℕ) (why : Refusal) → told_rows (Refused why) ≡ rows_of lg → (outside lg ≡ true) × (told why ≡ refused 1 0)
+pub rows_refused : (lg : ℕ) (why : Refusal) → told_number (Err why) ≡ rows_of lg → (outside lg ≡ true) × (told why ≡ refused 1 0)
 unfolding rows_of
 rows_refused lg why e = refused_by lg why (outside lg) e
 
 -- the same for a match on what `rows` answered
-pub matched_rows : {r : RowsAnswer} {lg k : ℕ} → told_rows r ≡ rows_of lg → r ≡ Rows k → RowsAt lg k
-matched_rows e is = rows_given _ _ (sym (ap told_rows is) ∙ e)
+pub matched_rows : {r : Result ℕ Refusal} {lg k : ℕ} → told_number r ≡ rows_of lg → r ≡ Ok k → RowsAt lg k
+matched_rows e is = rows_given _ _ (sym (ap told_number is) ∙ e)
 
-pub matched_refused : {r : RowsAnswer} {why : Refusal} (lg : ℕ) → told_rows r ≡ rows_of lg → r ≡ Refused why → (x : Outcome) → told why ≡ choose (outside lg) (refused 1 0) x
+pub matched_refused : {r : Result ℕ Refusal} {why : Refusal} (lg : ℕ) → told_number r ≡ rows_of lg → r ≡ Err why → (x : Outcome) → told why ≡ choose (outside lg) (refused 1 0) x
 matched_refused {why} lg e is x =
-    let out = rows_refused lg why (sym (ap told_rows is) ∙ e) in
+    let out = rows_refused lg why (sym (ap told_number is) ∙ e) in
     rw out.0 out.1

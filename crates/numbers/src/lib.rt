@@ -3,13 +3,16 @@
 #![tactic(auto)]
 
 ghost use Rattle.std.specs.Prelude.{◌≡◌};
-ghost use Rattle.numbers.specs.Told.{told_rows, told_flavor, told_number, told_most};
+ghost use Rattle.refusals.specs.Told.{told_number, told_length};
+ghost use Rattle.numbers.specs.Told.{flavor_number, told_flavor};
 ghost use Rattle.numbers.specs.Calls.{rows_of, flavor_of, offset_of, phase_of, base_bits_of, most_bits_of};
 
 mod formulas;
+pub mod size;
 
 use refusals::Refusal;
-use refusals::units::{Bits, Words, words_for};
+use refusals::units::StreamLength;
+use size::SketchSize;
 
 #[derive(Clone, Copy)]
 pub enum Flavor {
@@ -20,97 +23,61 @@ pub enum Flavor {
     Sliding,
 }
 
-#[derive(Clone, Copy)]
-pub enum FlavorAnswer {
-    Flavored(Flavor),
-    Refused(Refusal),
-}
+// The flavors in their order.
+impl From<Flavor> for u64 {
+    ghost from_gives = { λ flavor number. number ≡ flavor_number flavor };
 
-#[derive(Clone, Copy)]
-pub enum NumberAnswer {
-    Given(u8),
-    Refused(Refusal),
-}
-
-#[derive(Clone, Copy)]
-pub enum RowsAnswer {
-    Rows(u64),
-    Refused(Refusal),
-}
-
-#[derive(Clone, Copy)]
-pub enum MostAnswer {
-    AtMost(Bits, Words),
-    Refused(Refusal),
+    fn from(flavor: Flavor) -> u64 {
+        match flavor {
+            Flavor::Empty => 0,
+            Flavor::Sparse => 1,
+            Flavor::Hybrid => 2,
+            Flavor::Pinned => 3,
+            Flavor::Sliding => 4,
+        }
+    }
 }
 
 // k = 2^lg_k
-pub fn rows(lg: u8) -> RowsAnswer
-    ensures { told_rows result ≡ rows_of lg }
+pub fn rows(lg: u8) -> Result<u64, Refusal>
+    ensures { told_number result ≡ rows_of lg }
 {
-    if lg < 4 {
-        return RowsAnswer::Refused(Refusal::LgOutside);
-    }
-    if 26 < lg {
-        return RowsAnswer::Refused(Refusal::LgOutside);
-    }
-    RowsAnswer::Rows(1 << (lg as u64))
+    Ok(SketchSize::of(lg)?.k)
 }
 
-pub fn determine_flavor(lg: u8, coupons: u32) -> FlavorAnswer
+#[tactic(auto, using(laws::proofs::Choices::choices), unfolding(crate::specs::Calls::flavor_of))]
+pub fn determine_flavor(lg: u8, coupons: u32) -> Result<Flavor, Refusal>
     ensures { told_flavor result ≡ flavor_of lg coupons }
 {
-    match rows(lg) {
-        RowsAnswer::Refused(why) => FlavorAnswer::Refused(why),
-        RowsAnswer::Rows(k) => FlavorAnswer::Flavored(formulas::flavor_at(k, coupons as u64)),
-    }
+    Ok(SketchSize::of(lg)?.flavor(coupons))
 }
 
-pub fn determine_correct_offset(lg: u8, coupons: u32) -> NumberAnswer
+#[tactic(auto, using(laws::proofs::Choices::choices), unfolding(crate::specs::Calls::offset_of))]
+pub fn determine_correct_offset(lg: u8, coupons: u32) -> Result<u8, Refusal>
     ensures { told_number result ≡ offset_of lg coupons }
 {
-    match rows(lg) {
-        RowsAnswer::Refused(why) => NumberAnswer::Refused(why),
-        RowsAnswer::Rows(k) => {
-            if 64 * k < (coupons as u64) {
-                return NumberAnswer::Refused(Refusal::WrongCoupons);
-            }
-            NumberAnswer::Given(formulas::offset_at(k, coupons as u64))
-        }
-    }
+    SketchSize::of(lg)?.offset(coupons)
 }
 
-pub fn determine_pseudo_phase(lg: u8, coupons: u32) -> NumberAnswer
+#[tactic(auto, using(laws::proofs::Choices::choices), unfolding(crate::specs::Calls::phase_of))]
+pub fn determine_pseudo_phase(lg: u8, coupons: u32) -> Result<u8, Refusal>
     ensures { told_number result ≡ phase_of lg coupons }
 {
-    match rows(lg) {
-        RowsAnswer::Refused(why) => NumberAnswer::Refused(why),
-        RowsAnswer::Rows(k) => NumberAnswer::Given(formulas::phase_at(lg, k, coupons as u64)),
-    }
+    Ok(SketchSize::of(lg)?.phase(coupons))
 }
 
 // How many low bits of a row step n pairs write as they are; the Rust's golomb_choose_number_of_base_bits.
-pub fn number_of_base_bits(lg: u8, pairs: u32) -> NumberAnswer
+#[tactic(auto, using(laws::proofs::Choices::choices), unfolding(crate::specs::Calls::base_bits_of))]
+pub fn number_of_base_bits(lg: u8, pairs: u32) -> Result<u8, Refusal>
     ensures { told_number result ≡ base_bits_of lg pairs }
 {
-    match rows(lg) {
-        RowsAnswer::Refused(why) => NumberAnswer::Refused(why),
-        RowsAnswer::Rows(k) => NumberAnswer::Given(formulas::base_bits_at(k, pairs as u64)),
-    }
+    Ok(SketchSize::of(lg)?.base_bits(pairs))
 }
 
 // What n pairs are granted, in bits and in words, whatever the pairs and the book: for sizing memory cards.
-pub fn most_bits(lg: u8, pairs: u32) -> MostAnswer
-    ensures { told_most result ≡ most_bits_of lg pairs }
+#[tactic(auto, using(laws::proofs::Choices::choices), unfolding(crate::specs::Calls::most_bits_of))]
+pub fn most_bits(lg: u8, pairs: u32) -> Result<StreamLength, Refusal>
+    ensures { told_length result ≡ most_bits_of lg pairs }
 {
-    match rows(lg) {
-        RowsAnswer::Refused(why) => MostAnswer::Refused(why),
-        RowsAnswer::Rows(k) => {
-            if 0x1000_0000 < pairs {
-                return MostAnswer::Refused(Refusal::TooManyPairs);
-            }
-            let bits = Bits(formulas::most_bits_at(k, pairs as u64));
-            MostAnswer::AtMost(bits, words_for(bits))
-        }
-    }
+    SketchSize::of(lg)?.most_bits(pairs)
 }

@@ -47,3 +47,5 @@ module _ (k : ℕ) (pairs : List ℕ) (least i : ℕ) (j : Judging k pairs least
     within = omega arith;
     rest = rw (add-one i, add-one pair) (simp (lt-ltb (pair / 64) k h, le-ltb pair least o, ne_eqb pair 4294967295 n) at here);
   }
+
+pub ruleset judgings = (judging_start, judging_end, judging_turn, row_stops, order_stops, reserved_stops)

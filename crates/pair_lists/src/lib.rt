@@ -5,42 +5,20 @@
 
 ghost use Rattle.std.specs.Prelude.{◌≡◌, true, [], ◌<◌, length};
 ghost use Rattle.refusals.specs.Outcome.{accepted};
+ghost use Rattle.refusals.specs.Told.{told_plain};
 ghost use Rattle.pair_lists.specs.Lists.{pairs_judged, judge_pairs_of};
 ghost use Rattle.pair_lists.specs.Steps.{RisesTo};
-ghost use Rattle.pair_lists.specs.Told.{told_pairs};
 
-use numbers::{RowsAnswer, rows};
+use numbers::size::SketchSize;
 use refusals::Refusal;
-
-#[derive(Clone, Copy)]
-pub enum PairsAnswer {
-    Lawful,
-    Refused(Refusal),
-}
-
-// A cast with its bound, so that no caller has to show it again.
-fn wide(pair: u32) -> u64
-    ensures { (result ≡ pair) × (result < 4294967296) }
-{
-    pair as u64
-}
-
-// Does a list that rose so far rise with one more pair?
-fn still_rises(known: bool, before: u32, pair: u32) -> bool
-    ensures { result ≡ true → (known ≡ true) × (before < pair) }
-{
-    if before < pair { known } else { false }
-}
 
 // Is every pair above the one before? There is no way out of the loop, so that it runs many at a time.
 fn all_rise(pairs: &[u32]) -> bool
     ensures { result ≡ true → RisesTo pairs.now (length pairs.now) }
 {
     let mut rises = true;
-    let mut i: usize = 1;
-    while i < pairs.len() {
-        rises = still_rises(rises, pairs[i - 1], pairs[i]);
-        i += 1;
+    for two in pairs.windows(2) {
+        rises &= two[0] < two[1];
     }
     rises
 }
@@ -49,59 +27,46 @@ fn all_rise(pairs: &[u32]) -> bool
 fn all_lawful(k: u64, pairs: &[u32]) -> bool
     ensures { result ≡ true → pairs_judged k pairs.now ≡ accepted [] }
 {
-    let count = pairs.len();
-    if count == 0 {
+    let Some(last) = pairs.last() else {
         return true;
-    }
-    let last = wide(pairs[count - 1]);
-    if k <= last / 64 {
-        return false;
-    }
-    if last == 4294967295 {
+    };
+    if k <= u64::from(*last) / 64 || *last == u32::MAX {
         return false;
     }
     all_rise(pairs)
 }
 
 // The first faulty pair, by one after the other.
-fn first_fault(k: u64, pairs: &[u32]) -> PairsAnswer
-    ensures { told_pairs result ≡ pairs_judged k pairs.now }
+#[tactic(auto, using(crate::proofs::Judging::judgings))]
+fn first_fault(k: u64, pairs: &[u32]) -> Result<(), Refusal>
+    ensures { told_plain result ≡ pairs_judged k pairs.now }
 {
     let mut least: u64 = 0;
-    let mut i = 0;
-    while i < pairs.len() {
-        let pair = wide(pairs[i]);
+    for (i, pair) in pairs.iter().enumerate() {
+        let place = i as u64;
+        let pair = u64::from(*pair);
         if k <= pair / 64 {
-            return PairsAnswer::Refused(Refusal::RowNotBelow { place: i as u64 });
+            return Err(Refusal::RowNotBelow { place });
         }
         if pair < least {
-            return PairsAnswer::Refused(Refusal::NotAbove { place: i as u64 });
+            return Err(Refusal::NotAbove { place });
         }
         if pair == 4294967295 {
-            return PairsAnswer::Refused(Refusal::Reserved { place: i as u64 });
+            return Err(Refusal::Reserved { place });
         }
         least = pair + 1;
-        i += 1;
     }
-    PairsAnswer::Lawful
+    Ok(())
 }
 
-// The first faulty pair, over k itself: it is searched for only where there is one.
-fn judge(k: u64, pairs: &[u32]) -> PairsAnswer
-    ensures { told_pairs result ≡ pairs_judged k pairs.now }
+// The first faulty pair of the list, if there is one: it is searched for only where there is one.
+#[tactic(auto, using(laws::proofs::Choices::choices), unfolding(crate::specs::Lists::judge_pairs_of))]
+pub fn judge_pairs(lg: u8, pairs: &[u32]) -> Result<(), Refusal>
+    ensures { told_plain result ≡ judge_pairs_of lg pairs.now }
 {
+    let k = SketchSize::of(lg)?.k;
     if all_lawful(k, pairs) {
-        return PairsAnswer::Lawful;
+        return Ok(());
     }
     first_fault(k, pairs)
-}
-
-// The first faulty pair of the list, if there is one.
-pub fn judge_pairs(lg: u8, pairs: &[u32]) -> PairsAnswer
-    ensures { told_pairs result ≡ judge_pairs_of lg pairs.now }
-{
-    match rows(lg) {
-        RowsAnswer::Refused(why) => PairsAnswer::Refused(why),
-        RowsAnswer::Rows(k) => judge(k, pairs),
-    }
 }

@@ -2,6 +2,9 @@
 use mathlib.Core.Path.{◌≡◌, refl, sym, ap, ◌∙◌}
 use mathlib.Core.List.{List}
 use Prim.Native.Nat.{ℕ}
+use Rattle.std.specs.Prelude.{Option, Result}
+use Rattle.refusals.specs.declared.Refusal.{Refusal}
+use Rattle.pair_table.specs.declared.PairTable.{PairTable}
 use Rattle.refusals.specs.Outcome.{Outcome, refused, stopped, and_then, accepted}
 use Rattle.refusals.specs.Told.{told}
 use Rattle.refusals.specs.declared.Refusal.{Refusal}
@@ -10,8 +13,7 @@ use Rattle.tables.specs.Changes.{blank}
 use Rattle.tables.specs.Calls.{record_of, if_changed, spare_after, blank_if, table_judged, item_judged, insert_of, delete_of}
 use Rattle.pair_table.specs.Told.{told_change}
 use Rattle.pair_table.specs.Steps.{ChangedBy, grow_on, insert_on, delete_on}
-use Rattle.pair_table.specs.declared.ChangeAnswer.{ChangeAnswer}
-use Rattle.pair_table.proofs.Judging.{then_assoc}
+use Rattle.pair_table.proofs.Passing.{then_assoc}
 
 unchanged_by : (o : Outcome) → Refuses o → (after before : List ℕ) → if_changed o after before ≡ before
 unchanged_by (refused number place) by_place after before = refl
@@ -38,7 +40,7 @@ module _ (whole more : Outcome) (s e : List ℕ) where
       let is : whole ≡ told why = chain ∙ stays why more in
       (sym is, sym (ap (λ (o : Outcome). if_changed o after s) is ∙ unchanged_if_refused why after s), sym (ap (λ (o : Outcome). if_changed o (blank e) e) is ∙ unchanged_if_refused why (blank e) e))
 
-  pub change_done : (after t u : List ℕ) (answer : ChangeAnswer) → whole ≡ more → ChangedBy more after s e t u answer
+  pub change_done : (after t u : List ℕ) (answer : Result (Option PairTable) Refusal) → whole ≡ more → ChangedBy more after s e t u answer
       → (told_change answer ≡ whole) × (t ≡ if_changed whole after s) × (u ≡ spare_after whole e)
   change_done after t u answer is w =
       (w.says ∙ sym is, w.region ∙ sym (ap (λ (o : Outcome). if_changed o after s) is), w.spare ∙ sym (ap (λ (o : Outcome). if_changed o (blank e) e) is))

@@ -9,6 +9,9 @@ use native.Mathlib.Numerals.{add-one}
 use lib.ListN.{length, get_or, set, length-set, replicate}
 use lib.Dec.{leb}
 use borrow.Author.Tests.{eq-eqb, ne_eqb, leb-true, leb-false}
+use Rattle.std.specs.Prelude.{Option, None, Result, Ok}
+use Rattle.refusals.specs.declared.Refusal.{Refusal}
+use Rattle.pair_table.specs.declared.PairTable.{PairTable}
 use Rattle.tables.specs.Slots.{empty, home, next, spot, held, holds}
 use Rattle.tables.specs.Changes.{blank, remove, rebuilt, halved, halved_lg, deleted}
 use Rattle.tables.specs.Shapes.{Lawful, AllSmall, EmptyFrom, apart, shifted}
@@ -23,8 +26,6 @@ use Rattle.tables.proofs.Shift.{shifted_done, shifted_out, shifted_move, shifted
 use Rattle.tables.proofs.Halving.{halves_yes, halves_full, halves_least, halved_stop, halved_lg_stop, halved_go, halved_lg_go, length_rebuilt, half_lawful}
 use Rattle.pair_table.specs.Told.{told_change}
 use Rattle.pair_table.specs.Steps.{delete_on, DeletedBy}
-use Rattle.pair_table.specs.declared.ChangeAnswer.{ChangeAnswer}
-use Rattle.pair_table.specs.declared.ChangeAnswer.TheVariants as change
 use Rattle.pair_table.proofs.Inserting.{wiped, went, stayed}
 
 -- ---- the hole at h, with the slots before p done
@@ -99,15 +100,12 @@ module _ (s₀ e₀ s e : List ℕ) (lg v c at : ℕ) (a : Halving s₀ e₀ s e
       (sym (a.region ∙ halved_stop at s at v c (halves_least c at h)), sym (a.ends ∙ halved_lg_stop at at c (halves_least c at h)), a.clean)
 
   module _ (large : 2 < at) where
-    pub halving_needs : (n : ℕ) → n ≡ 2 ^ at
-        → ((length s ≡ length e) × (e ≡ blank e) × EmptyFrom s n (length s) × AllSmall s (2 ^ at) v)
-        × ((2 ^ at ≤ n) × (2 ^ (at - 1) ≤ n) × (n ≤ length s) × (at ≤ 26) × (2 ≤ at - 1) × (at - 1 ≤ 26) × (at - 1 < v) × (v ≤ 32))
-    halving_needs n z =
+    pub halving_needs : ((length s ≡ length e) × (e ≡ blank e) × EmptyFrom s (2 ^ at) (length s) × AllSmall s (2 ^ at) v) × ((2 ^ at ≤ length s) × (2 ^ (at - 1) ≤ length s))
+    halving_needs =
         let w = wiped e e₀ a.clean in
-        let l = a.lawful in
-        rw z (
+        let l = a.lawful in (
           (a.long ∙ level ∙ sym w.1, w.0, l.beyond, λ p h f. (l.placed p h f).small),
-          (omega arith, omega (arith, half at large), l.room, l.lg_most, omega arith, omega (arith, l.lg_most), omega (arith, l.bits_least), l.bits_most),
+          (l.room, omega (arith, half at large, l.room)),
         )
 
     pub halving_goes : 4 * c < 2 ^ at → (t u : List ℕ) → t ≡ rebuilt s at (at - 1) v → u ≡ blank e → Halving s₀ e₀ t u lg v c (at - 1)
@@ -141,7 +139,7 @@ module _ (s e : List ℕ) (lg v c x at : ℕ) (l : Lawful s lg v c) (xe : x ≡ 
         let r = removed_some s lg v c x at l xe is within found in
         subst (λ (z : List ℕ). Lawful z lg v (c - 1)) (r.now_is refl ∙ sym e) (r.lawful refl)
 
-    pub delete_done : (xs : x < 2 ^ v) (t u w r : List ℕ) (to : ℕ) (answer : ChangeAnswer) → told_change answer ≡ changed to v (c - 1) → w ≡ blank e → r ≡ remove s lg v x
+    pub delete_done : (xs : x < 2 ^ v) (t u w r : List ℕ) (to : ℕ) (answer : Result (Option PairTable) Refusal) → told_change answer ≡ changed to v (c - 1) → w ≡ blank e → r ≡ remove s lg v x
         → (t ≡ halved lg r lg v (c - 1)) × (to ≡ halved_lg lg lg (c - 1)) × (u ≡ blank w) → DeletedBy s e lg v c x t u answer
     unfolding delete_on deleted
     delete_done xs t u w r to answer told clean out h =
@@ -149,7 +147,7 @@ module _ (s e : List ℕ) (lg v c x at : ℕ) (l : Lawful s lg v c) (xe : x ≡ 
         went (delete_on s lg v c x) (deleted s lg v c x) s e t u answer to v (c - 1) told (rw there (ap (λ (k : ℕ). changed k v (c - 1)) (sym h.1)))
         (h.0 ∙ ap (λ (z : List ℕ). halved lg z lg v (c - 1)) out) (h.2 ∙ ap (λ (k : ℕ). replicate k empty) (wiped w e clean).1)
 
-  pub delete_missing : x < 2 ^ v → (get_or s at 0 ≡ x → ⊥) → DeletedBy s e lg v c x s e change.Unchanged
+  pub delete_missing : x < 2 ^ v → (get_or s at 0 ≡ x → ⊥) → DeletedBy s e lg v c x s e (Ok None)
   unfolding delete_on
   delete_missing xs d =
       let none : holds s (2 ^ lg) x ≡ false = holds_spot s lg v c x l xs xe ∙ ne_eqb (get_or s (spot s lg v x) 0) x (rw is at d) in

@@ -11,6 +11,9 @@ use lib.Seq.{get_or-set_other}
 use lib.Dec.{eqb}
 use lib.Pow.{pow_mono}
 use borrow.Author.Tests.{eq-eqb, ne_eqb}
+use Rattle.std.specs.Prelude.{Option, None, Result, Ok, Err}
+use Rattle.refusals.specs.declared.Refusal.{Refusal}
+use Rattle.pair_table.specs.declared.PairTable.{PairTable}
 use Rattle.refusals.specs.Outcome.{Outcome, accepted, and_then}
 use Rattle.refusals.specs.Told.{told}
 use Rattle.refusals.specs.declared.Refusal.{Refusal}
@@ -23,8 +26,6 @@ use Rattle.tables.proofs.Bridges.{holds_spot}
 use Rattle.tables.proofs.Placing.{small_set}
 use Rattle.pair_table.specs.Told.{told_change}
 use Rattle.pair_table.specs.Steps.{ChangedBy, grow_on, insert_on, GrownBy, InsertedBy}
-use Rattle.pair_table.specs.declared.ChangeAnswer.{ChangeAnswer}
-use Rattle.pair_table.specs.declared.ChangeAnswer.TheVariants as change
 use Rattle.pair_table.proofs.Called.{unchanged_if_refused}
 
 pub double : (lg : ℕ) → 2 ^ (lg + 1) ≡ 2 * 2 ^ lg
@@ -40,7 +41,7 @@ wiped w e is =
     (is ∙ ap (λ (k : ℕ). replicate k empty) (sym long), long)
 
 -- a change that goes through
-pub went : (outcome : Outcome) (after s e t u : List ℕ) (answer : ChangeAnswer) (lg v c : ℕ) → told_change answer ≡ changed lg v c → outcome ≡ changed lg v c → t ≡ after → u ≡ blank e
+pub went : (outcome : Outcome) (after s e t u : List ℕ) (answer : Result (Option PairTable) Refusal) (lg v c : ℕ) → told_change answer ≡ changed lg v c → outcome ≡ changed lg v c → t ≡ after → u ≡ blank e
     → ChangedBy outcome after s e t u answer
 went outcome after s e t u answer lg v c told is p q = record {
   says = told ∙ sym is;
@@ -48,14 +49,14 @@ went outcome after s e t u answer lg v c told is p q = record {
   spare = q ∙ sym (ap (λ (o : Outcome). if_changed o (blank e) e) is);
 }
 
-pub stayed : (outcome : Outcome) (after s e : List ℕ) → outcome ≡ unchanged → ChangedBy outcome after s e s e change.Unchanged
+pub stayed : (outcome : Outcome) (after s e : List ℕ) → outcome ≡ unchanged → ChangedBy outcome after s e s e (Ok None)
 stayed outcome after s e is = record {
   says = sym is;
   region = sym (ap (λ (o : Outcome). if_changed o after s) is);
   spare = sym (ap (λ (o : Outcome). if_changed o (blank e) e) is);
 }
 
-pub refused_change : (outcome : Outcome) (after s e : List ℕ) (why : Refusal) → outcome ≡ told why → ChangedBy outcome after s e s e (change.Refused why)
+pub refused_change : (outcome : Outcome) (after s e : List ℕ) (why : Refusal) → outcome ≡ told why → ChangedBy outcome after s e s e (Err why)
 refused_change outcome after s e why is = record {
   says = sym is;
   region = sym (ap (λ (o : Outcome). if_changed o after s) is ∙ unchanged_if_refused why after s);
@@ -71,27 +72,26 @@ module _ (s e : List ℕ) (lg v c x at : ℕ) (l : Lawful s lg v c) (level : len
   stored = ap (λ (p : ℕ). set s p x) is
 
   -- what the rebuild of a doubled table needs
-  pub grow_needs : (w : List ℕ) (n : ℕ) → w ≡ blank e → n ≡ 2 ^ (lg + 1) → (lg + 1 ≤ 26) × (lg + 1 < v) × (2 ^ (lg + 1) ≤ length s)
-      → ((length (set s at x) ≡ length w) × (w ≡ blank w) × EmptyFrom (set s at x) n (length (set s at x)) × AllSmall (set s at x) (2 ^ lg) v)
-      × ((2 ^ lg ≤ n) × (2 ^ (lg + 1) ≤ n) × (n ≤ length (set s at x)) × (lg ≤ 26) × (2 ≤ lg + 1) × (lg + 1 ≤ 26) × (lg + 1 < v) × (v ≤ 32))
-  grow_needs w n clean size g =
+  pub grow_needs : (w : List ℕ) → w ≡ blank e → 2 ^ (lg + 1) ≤ length s
+      → ((length (set s at x) ≡ length w) × (w ≡ blank w) × EmptyFrom (set s at x) (2 ^ lg) (length (set s at x)) × AllSmall (set s at x) (2 ^ lg) v)
+      × ((2 ^ lg ≤ length (set s at x)) × (2 ^ (lg + 1) ≤ length (set s at x)))
+  grow_needs w clean g =
       let long = length-set s at x in
-      let d = double lg in
       let b = wiped w e clean in (
         (
           long ∙ level ∙ sym b.1,
           b.0,
-          (λ p h m. get_or-set_other s at p x 0 (λ z. omega (arith, z)) ∙ l.beyond p (omega arith) (rw long at m)),
+          (λ p h m. get_or-set_other s at p x 0 (λ z. omega (arith, z)) ∙ l.beyond p h (rw long at m)),
           small_set s (2 ^ lg) v at x at_room (λ p h f. (l.placed p h f).small) (λ f. xs),
         ),
-        (omega arith, omega arith, rw long (omega (arith, g)), l.lg_most, omega (arith, l.lg_least), g.0, g.1, l.bits_most),
+        (rw long l.room, rw long g),
       )
 
-  pub grown_refused : (why : Refusal) → told why ≡ growth_judged s (lg + 1) v → GrownBy s e lg v c x s e (change.Refused why)
+  pub grown_refused : (why : Refusal) → told why ≡ growth_judged s (lg + 1) v → GrownBy s e lg v c x s e (Err why)
   unfolding grow_on
   grown_refused why r = refused_change (grow_on s lg v c) (rebuilt (place s lg v x) lg (lg + 1) v) s e why (ap (λ (o : Outcome). and_then o (changed (lg + 1) v (c + 1))) (sym r) ∙ stays why (changed (lg + 1) v (c + 1)))
 
-  pub grown_done : (t u w : List ℕ) (answer : ChangeAnswer) → told_change answer ≡ changed (lg + 1) v (c + 1) → growth_judged s (lg + 1) v ≡ accepted [] → w ≡ blank e
+  pub grown_done : (t u w : List ℕ) (answer : Result (Option PairTable) Refusal) → told_change answer ≡ changed (lg + 1) v (c + 1) → growth_judged s (lg + 1) v ≡ accepted [] → w ≡ blank e
       → t ≡ rebuilt (set s at x) lg (lg + 1) v → u ≡ blank w → GrownBy s e lg v c x t u answer
   unfolding grow_on
   grown_done t u w answer told r clean p q =
@@ -105,16 +105,16 @@ module _ (s e : List ℕ) (lg v c x at : ℕ) (l : Lawful s lg v c) (level : len
     there : (b : Bool) → eqb (get_or s at 0) x ≡ b → holds s (2 ^ lg) x ≡ b
     there b h = holds_spot s lg v c x l xs xe ∙ ap (λ (p : ℕ). eqb (get_or s p 0) x) (sym is) ∙ h
 
-    pub insert_there : get_or s at 0 ≡ x → InsertedBy s e lg v c x s e change.Unchanged
+    pub insert_there : get_or s at 0 ≡ x → InsertedBy s e lg v c x s e (Ok None)
     unfolding insert_on
     insert_there h = stayed (insert_on s lg v c x) after s e (simp (there true (eq-eqb (get_or s at 0) x h)))
 
-    pub insert_fits : (get_or s at 0 ≡ x → ⊥) → fits (c + 1) lg ≡ true → (u : List ℕ) (answer : ChangeAnswer) → told_change answer ≡ changed lg v (c + 1) → u ≡ blank e
+    pub insert_fits : (get_or s at 0 ≡ x → ⊥) → fits (c + 1) lg ≡ true → (u : List ℕ) (answer : Result (Option PairTable) Refusal) → told_change answer ≡ changed lg v (c + 1) → u ≡ blank e
         → InsertedBy s e lg v c x (set s at x) u answer
     unfolding insert_on inserted
     insert_fits d f u answer told q =
         went (insert_on s lg v c x) after s e (set s at x) u answer lg v (c + 1) told (simp (there false (ne_eqb (get_or s at 0) x d), f)) (simp f stored) q
 
-    pub insert_grows : (get_or s at 0 ≡ x → ⊥) → fits (c + 1) lg ≡ false → (t u : List ℕ) (answer : ChangeAnswer) → GrownBy s e lg v c x t u answer → InsertedBy s e lg v c x t u answer
+    pub insert_grows : (get_or s at 0 ≡ x → ⊥) → fits (c + 1) lg ≡ false → (t u : List ℕ) (answer : Result (Option PairTable) Refusal) → GrownBy s e lg v c x t u answer → InsertedBy s e lg v c x t u answer
     unfolding insert_on inserted
     insert_grows d f t u answer w = simp (there false (ne_eqb (get_or s at 0) x d), f) w

@@ -1,5 +1,6 @@
 -- Laws that belong to no one function.
-pub mod Judging
+pub mod Passing
+pub mod Searching
 pub mod Rebuilding
 pub mod Called
 pub mod Inserting

@@ -2,18 +2,19 @@
 use mathlib.Core.Path.{◌≡◌, refl, sym, ap, ◌∙◌}
 use mathlib.Core.Bool.{Bool, true, false}
 use mathlib.Core.Logic.{⊎_elim}
-use mathlib.Core.List.{List}
-use Prim.Native.Nat.{ℕ, zero, suc, ◌+◌, ◌^◌, ◌≤◌, ◌<◌}
+use mathlib.Core.List.{List, ◌++◌}
+use Prim.Native.Nat.{ℕ, zero, suc, ◌+◌, ◌-◌, ◌^◌, ◌≤◌, ◌<◌}
 use native.Mathlib.Omega.{arith}
 use native.Mathlib.Numerals.{add-one}
-use lib.ListN.{length, get_or, replicate, length-replicate, get_or-replicate}
-use lib.Seq.{get_or-set_other}
+use lib.ListN.{length, get_or, set, take, drop, replicate, length-replicate, get_or-replicate, length-drop, take-append-drop}
+use lib.Seq.{get_or-set_other, get_or-take, get_or-drop, length-take-le}
+use Rattle.std.proofs.lemmas.List.{replicate-append-replicate}
 use Rattle.laws.specs.Choose.{choose}
 use Rattle.laws.proofs.Orders.{same_or_not}
 use Rattle.tables.specs.Slots.{empty, home, next, stops, probe, spot}
 use Rattle.tables.specs.Changes.{blank, place, fill, rebuilt}
 use Rattle.tables.specs.Shapes.{AllSmall, EmptyFrom}
-use Rattle.tables.proofs.Laws.{home_lt}
+use Rattle.tables.proofs.Laws.{home_lt, all_empty}
 use Rattle.tables.proofs.Stepping.{next_lt}
 use Rattle.tables.proofs.Placing.{small_set}
 use Rattle.tables.proofs.Refilled.{fill_none, fill_one, length_fill}
@@ -90,14 +91,54 @@ module _ (s : List ℕ) (lg to v : ℕ) (bits : to ≤ v) (room : 2 ^ to ≤ len
   unfolding rebuilt
   rebuilt_beyond p h l = fill_stays s (2 ^ lg) (blank s) to v bits small (2 ^ lg) (omega arith) p h ∙ blank_at p l
 
+-- the slots of a table are the first of its region
+fill_first : (o : List ℕ) (m k : ℕ) (t : List ℕ) (lg v : ℕ) → k ≤ m → fill (take m o) k t lg v ≡ fill o k t lg v
+unfolding fill
+fill_first o m zero t lg v h = refl
+fill_first o m (suc k) t lg v h = rw (get_or-take m o k 0 h, fill_first o m k t lg v (omega arith)) refl
+
 -- the spare of a rebuild, once the items are stored in it
-pub refilled : (s e f : List ℕ) (m lg to v : ℕ) → f ≡ fill s m e to v → m ≡ 2 ^ lg → e ≡ blank e → length s ≡ length e → f ≡ rebuilt s lg to v
+pub refilled : (s e f : List ℕ) (m lg to v : ℕ) → f ≡ fill (take m s) (length (take m s)) e to v → m ≡ 2 ^ lg → m ≤ length s → e ≡ blank e → length s ≡ length e → f ≡ rebuilt s lg to v
 unfolding rebuilt
-refilled s e f m lg to v is size empties level =
-    is ∙ ap (λ (k : ℕ). fill s k e to v) size ∙ ap (λ (t : List ℕ). fill s (2 ^ lg) t to v) (empties ∙ ap (λ (k : ℕ). replicate k empty) (sym level))
+refilled s e f m lg to v is size long empties level =
+    is ∙ ap (λ (k : ℕ). fill (take m s) k e to v) (length-take-le m s long) ∙ fill_first s m m e to v (omega arith)
+    ∙ ap (λ (k : ℕ). fill s k e to v) size ∙ ap (λ (t : List ℕ). fill s (2 ^ lg) t to v) (empties ∙ ap (λ (k : ℕ). replicate k empty) (sym level))
 
 pub refilled_fits : (s f : List ℕ) (n lg to v : ℕ) → f ≡ rebuilt s lg to v → to ≤ v → 2 ^ to ≤ n → n ≤ length s → AllSmall s (2 ^ lg) v
     → (length s ≡ length f) × EmptyFrom f n (length f)
 refilled_fits s f n lg to v is bits span room small =
     let long = length_rebuilt s lg to v bits (omega arith) small in
     rw is (sym long, λ p h l. rebuilt_beyond s lg to v bits (omega arith) small p (omega arith) (rw long at l))
+
+-- what lies beyond the first n slots, where it is all empty
+empty_end : (s : List ℕ) (n : ℕ) → n ≤ length s → EmptyFrom s n (length s) → drop n s ≡ replicate (length s - n) empty
+empty_end s n long vacant =
+    let size : length (drop n s) ≡ length s - n = length-drop n s in
+    all_empty (drop n s) (length s - n) size (λ k h. get_or-drop n s k 0 ∙ vacant (n + k) (omega arith) (omega arith))
+
+-- the first n slots of the spare go into the region, and are emptied
+module _ (s e : List ℕ) (f : List ℕ) (n : ℕ) (level : length s ≡ length e) (long : n ≤ length s) (s_vacant : EmptyFrom s n (length s)) (e_vacant : EmptyFrom e n (length e)) where
+  pub moved : f ≡ take n e → f ++ drop n s ≡ e
+  moved is =
+      let same : drop n s ≡ drop n e = empty_end s n long s_vacant ∙ ap (λ (k : ℕ). replicate (k - n) empty) level ∙ sym (empty_end e n (omega arith) e_vacant) in
+      rw (is, same) (take-append-drop n e)
+
+  pub emptied : f ≡ replicate (length (take n e)) empty → f ++ drop n e ≡ blank e
+  emptied is =
+      let front : length (take n e) ≡ n = length-take-le n e (omega arith) in
+      let whole : n + (length e - n) ≡ length e = omega arith in
+      rw (is, front, empty_end e n (omega arith) e_vacant) (replicate-append-replicate n (length e - n) empty ∙ ap (λ (k : ℕ). replicate k empty) whole)
+
+-- one slot more of what is stored anew
+pub fill_start : (o t : List ℕ) (lg v : ℕ) → t ≡ fill o 0 t lg v
+unfolding fill
+fill_start o t lg v = refl
+
+pub fill_item : (o : List ℕ) (i : ℕ) (t u : List ℕ) (lg v q : ℕ) → u ≡ fill o i t lg v → (get_or o i 0 ≡ empty → ⊥) → q ≡ spot u lg v (get_or o i 0) → set u q (get_or o i 0) ≡ fill o (i + 1) t lg v
+unfolding place
+fill_item o i t u lg v q is d at = ap (λ (p : ℕ). set u p (get_or o i 0)) at ∙ rw is (sym (fill_one o i t lg v d))
+
+pub fill_empty : (o : List ℕ) (i : ℕ) (t u : List ℕ) (lg v : ℕ) → u ≡ fill o i t lg v → get_or o i 0 ≡ empty → u ≡ fill o (i + 1) t lg v
+fill_empty o i t u lg v is e = is ∙ sym (fill_none o i t lg v e)
+
+pub ruleset refills = (fill_start, fill_item, fill_empty)

@@ -3,18 +3,19 @@ use mathlib.Core.Path.{◌≡◌, sym, ap, ◌∙◌, subst}
 use mathlib.Core.Bool.{false}
 use mathlib.Core.Logic.{◌⊎◌, ⊎_elim}
 use mathlib.Core.List.{List, []}
-use Prim.Native.Nat.{ℕ, ◌+◌, ◌-◌, ◌*◌, ◌^◌, ◌≤◌, ◌<◌}
+use Prim.Native.Nat.{ℕ, ◌+◌, ◌-◌, ◌*◌, ◌^◌, ◌≤◌, ◌<◌, max}
 use native.Mathlib.Omega.{arith}
 use native.Mathlib.Nat.{le_trans, lt_of_lt_of_le as lt-le}
 use native.Mathlib.Numerals.{lt_of_le_of_ne}
 use lib.ListN.{length, get_or, set}
 use lib.Pow.{pow_pos, pow_mono, shr_mono}
 use lib.Seq.{get_or-set_same, get_or-set_other}
+use Rattle.std.specs.Prelude.{Option}
 use Rattle.laws.proofs.Orders.{same_or_not, lt_or_le}
 use Rattle.refusals.specs.Outcome.{accepted}
 use Rattle.tables.specs.Slots.{empty, home, stops, spot}
 use Rattle.tables.specs.Changes.{blank}
-use Rattle.tables.specs.Shapes.{steps, EmptyFrom, Lawful, Built}
+use Rattle.tables.specs.Shapes.{steps, EmptyFrom, Lawful}
 use Rattle.tables.specs.Calls.{item_judged, items_judged}
 use Rattle.tables.proofs.Laws.{stops_empty, stops_not, at_or_below, all_empty}
 use Rattle.tables.proofs.Stepping.{steps_line}
@@ -22,7 +23,7 @@ use Rattle.tables.proofs.Paths.{Ends, spot_ends, run_none}
 use Rattle.tables.proofs.Refilled.{items_some}
 use Rattle.tables.proofs.Items.{Fine, fine_item, fine_items}
 use Rattle.tables.proofs.Finger.{Before, first, stay}
-use Rattle.pair_table.specs.Steps.{NoneAbove, BuiltTo}
+use Rattle.pair_table.specs.Steps.{NoneAbove, BuiltTo, BuiltUp}
 
 -- ---- the highest item decides for all
 
@@ -92,19 +93,19 @@ item_next v x h l e =
 
 module _ (o t s : List ℕ) (lg v p least i h q : ℕ) (r : Rising o t s lg v p least i) (more : i < length o) (load : 4 * length o ≤ 3 * 2 ^ lg)
     (small : get_or o i 0 < 2 ^ v) (full : get_or o i 0 ≡ empty → ⊥) (above : least ≤ get_or o i 0)
-    (hz : h ≡ home lg v (get_or o i 0)) (hq : h ≤ q) (pq : p ≤ q) (one : (q ≡ h) ⊎ (q ≡ p)) (qn : q < 2 ^ lg) where
+    (hz : h ≡ home lg v (get_or o i 0)) (later : q ≡ max h p) (qn : q < 2 ^ lg) where
   abbrev x : ℕ
   x = get_or o i 0
 
   q_empty : get_or s q 0 ≡ empty
-  q_empty = r.vacant q pq qn
+  q_empty = r.vacant q (omega arith) qn
 
   new : get_or s q 0 ≡ x → ⊥
   new e = full (sym e ∙ q_empty)
 
   -- what lies between the home and the end lies before p
   before_p : (k : ℕ) → h ≤ k → k < q → k < p
-  before_p k a b = ⊎_elim (λ (e : q ≡ h). absurd (omega arith)) (λ (e : q ≡ p). omega arith) one
+  before_p k a b = omega arith
 
   passed : (k : ℕ) → h ≤ k → k < q → get_or s k 0 ≡ empty → ⊥
   passed k a b = r.filled x above k (rw hz at a) (before_p k a b)
@@ -162,5 +163,5 @@ pub rest_needs : (o t s : List ℕ) (lg v least most i : ℕ) → Lawful t lg v 
 rest_needs o t s lg v least most i l b e =
     subst (λ (u : List ℕ). BuiltTo o u s lg v (most + 1) i) (empty_table t s lg v l b.long) (below_more o t s lg v least (most + 1) i b (omega arith))
 
-pub rest_built : (o t s u : List ℕ) (lg v least i r : ℕ) → Lawful t lg v 0 → BuiltTo o t s lg v least i → Built o (blank s) u lg v r → Built o t u lg v r
-rest_built o t s u lg v least i r l b w = subst (λ (z : List ℕ). Built o z u lg v r) (sym (empty_table t s lg v l b.long)) w
+pub rest_built : (o t s u : List ℕ) (lg v least i : ℕ) (r : Option ℕ) → Lawful t lg v 0 → BuiltTo o t s lg v least i → BuiltUp o (blank s) u lg v r → BuiltUp o t u lg v r
+rest_built o t s u lg v least i r l b w = subst (λ (z : List ℕ). BuiltUp o z u lg v r) (sym (empty_table t s lg v l b.long)) w

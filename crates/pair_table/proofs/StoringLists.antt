@@ -6,10 +6,14 @@ use Prim.Native.Nat.{ℕ, suc, ◌+◌, ◌-◌, ◌*◌, ◌^◌, ◌≤◌, �
 use native.Mathlib.Omega.{arith}
 use native.Mathlib.Numerals.{add-one}
 use lib.ListN.{length, get_or, drop, replicate, length-replicate}
+use lib.Pow.{pow_mono}
+use Rattle.pair_table.specs.declared.batch.Batch.{Batch}
 use lib.Dec.{eqb, leb, ltb}
-use borrow.Author.Tests.{ltb-false, leb-true, leb-false}
+use borrow.Author.Tests.{leb-true, leb-false}
 use Rattle.laws.specs.Choose.{choose}
-use Rattle.laws.proofs.Truths.{neither}
+use Rattle.std.specs.Prelude.{Result, Err}
+use Rattle.refusals.specs.declared.Refusal.{Refusal}
+use Rattle.pair_table.specs.declared.PairTable.{PairTable}
 use Rattle.refusals.specs.Outcome.{Outcome, accepted, refused, and_then, stopped}
 use Rattle.refusals.specs.Told.{told}
 use Rattle.refusals.specs.declared.Refusal.{Refusal}
@@ -23,11 +27,8 @@ use Rattle.tables.proofs.Refilled.{length_fill, blank_lawful}
 use Rattle.tables.proofs.Items.{Fine, items_turn, items_end, items_fine}
 use Rattle.tables.proofs.Sizes.{least_stop, least_go, least_out, build_least, build_fits}
 use Rattle.tables.proofs.Build.{built_whole, built_stopped}
-use Rattle.tables.proofs.Says.{past}
 use Rattle.pair_table.specs.Told.{told_table}
 use Rattle.pair_table.specs.Steps.{lent_judged, Buildable, store_on, build_on, MadeBy, StoredBy, BuiltBy}
-use Rattle.pair_table.specs.declared.TableAnswer.{TableAnswer}
-use Rattle.pair_table.specs.declared.TableAnswer.TheVariants as table
 
 -- ---- the items, one after the other
 
@@ -47,6 +48,11 @@ items_next v list i j h r =
 pub items_all : (v : ℕ) (list : List ℕ) (i : ℕ) → Judging v list i → length list ≤ i → accepted [] ≡ items_judged v 0 list
 items_all v list i j h = sym (j.1 ∙ items_end v i list h)
 
+pub items_start : (v : ℕ) (list : List ℕ) → Judging v list 0
+items_start v list = (omega arith, refl)
+
+pub ruleset judgings = (items_start, items_refused, items_next, items_all)
+
 -- ---- the lg
 
 abbrev pub Sizing : ℕ → ℕ → Type 0
@@ -62,6 +68,11 @@ size_next n lg j h f =
 
 pub size_last : (n lg : ℕ) → Sizing n lg → 27 ≤ lg → lg ≡ build_lg n
 size_last n lg j h = sym (j.2 ∙ least_out (27 - lg) lg n (omega arith))
+
+pub sizing_start : (n : ℕ) → Sizing n 2
+sizing_start n = (omega arith, omega arith, refl)
+
+pub ruleset sizings = (sizing_start, size_found, size_next, size_last)
 
 -- ---- refusals other than 11 leave what was lent as it was
 
@@ -102,7 +113,7 @@ left_by (refused number place) why e (refuses d) built twice before = simp d
 left_by (stopped _ _ _) why e never built twice before = elim never [ ]
 
 -- a refusal by such a judgement, whatever was to come after it
-pub built_refused : (whole judged more : Outcome) (v : ℕ) (list s e : List ℕ) (why : Refusal) → whole ≡ and_then judged more → told why ≡ judged → Leaves judged → MadeBy whole v list s e s e (table.Refused why)
+pub built_refused : (whole judged more : Outcome) (v : ℕ) (list s e : List ℕ) (why : Refusal) → whole ≡ and_then judged more → told why ≡ judged → Leaves judged → MadeBy whole v list s e s e (Err why)
 built_refused whole judged more v list s e why chain r l =
     let is : whole ≡ told why = chain ∙ ap (λ (o : Outcome). and_then o more) (sym r) ∙ stays why more in
     let kept : (built twice before : List ℕ) → before ≡ if_built whole built twice before =
@@ -111,18 +122,18 @@ built_refused whole judged more v list s e why chain r l =
 
 -- ---- the judgements passed
 
-pub buildable : (s e : List ℕ) (v : ℕ) (list : List ℕ) → lent_judged s e v list ≡ accepted [] → Buildable v list
-unfolding lent_judged
-buildable s e v list h =
-    let third : Outcome = choose (ltb (2 ^ 28) (length list)) (refused 4 0) (items_judged v 0 list) in
-    let a = past (unequal s e) 2 (choose (ltb v 3 || ltb 32 v) (refused 15 0) third) h in
-    let b = past (ltb v 3 || ltb 32 v) 15 third a.1 in
-    let d = past (ltb (2 ^ 28) (length list)) 4 (items_judged v 0 list) b.1 in
-    record {
-      bits_most = ltb-false 32 v (neither (ltb v 3) (ltb 32 v) b.0).1;
-      few = ltb-false (2 ^ 28) (length list) d.0;
-      fine = λ k l. let f = items_fine v 0 list d.1 k l in (f.small, f.full);
-    }
+pub buildable : (v : ℕ) (list : List ℕ) → v ≤ 32 → length list ≤ 2 ^ 28 → accepted [] ≡ items_judged v 0 list → Buildable v list
+buildable v list bits_most few e = record {
+  bits_most = bits_most;
+  few = few;
+  fine = λ k l. let f = items_fine v 0 list (sym e) k l in (f.small, f.full);
+}
+
+-- a list whose items fit a table is one
+pub batch_buildable : (b : Batch) → Buildable b.shape.valid b.list.now
+batch_buildable b =
+    let slots : 2 ^ b.shape.lg ≤ 2 ^ 26 = pow_mono b.shape.lg_most in
+    record { bits_most = b.shape.bits_most; few = omega (arith, b.load, slots); fine = b.fine }
 
 -- ---- the list stored
 
@@ -136,15 +147,11 @@ module _ (v : ℕ) (list s e : List ℕ) (lg : ℕ) (b : Buildable v list) (is :
   fine : (k : ℕ) → k < length list → Fine v (get_or list k 0)
   fine k h = record { small = (b.fine k h).0; full = (b.fine k h).1 }
 
-  base : (w : List ℕ) → w ≡ blank s → Lawful w lg v 0
+  pub base : (w : List ℕ) → w ≡ blank s → Lawful w lg v 0
   base w clean = rw clean (blank_lawful (length s) lg v (rw is (build_least (length list))) most bits b.bits_most room)
 
-  pub store_needs : (w : List ℕ) → w ≡ blank s
-      → ((Lawful w lg v 0) × (4 * length list ≤ 3 * 2 ^ lg)) × ((k : ℕ) → k < length list → (get_or list k 0 < 2 ^ v) × (get_or list k 0 ≡ empty → ⊥))
-  store_needs w clean = ((base w clean, load), b.fine)
-
   -- an item that stands twice
-  pub store_twice : (w t u : List ℕ) (r : ℕ) (answer : TableAnswer) → w ≡ blank s → Built list w t lg v r → r < length list → told_table answer ≡ refused 11 r → u ≡ blank e → StoredBy s e v list (blank t) u answer
+  pub store_twice : (w t u : List ℕ) (r : ℕ) (answer : Result PairTable Refusal) → w ≡ blank s → Built list w t lg v r → r < length list → told_table answer ≡ refused 11 r → u ≡ blank e → StoredBy s e v list (blank t) u answer
   unfolding store_on
   store_twice w t u r answer clean a l told q =
       let j : store_on v list ≡ refused 11 r = ap (λ (o : Outcome). and_then o (record_of (build_lg (length list)) v (length list))) (built_stopped list w lg v (base w clean) fine load t r a l) in
@@ -156,7 +163,7 @@ module _ (v : ℕ) (list s e : List ℕ) (lg : ℕ) (b : Buildable v list) (is :
       }
 
   -- none does
-  pub store_whole : (w t u : List ℕ) (r : ℕ) (answer : TableAnswer) → w ≡ blank s → Built list w t lg v r → length list ≤ r → told_table answer ≡ record_of lg v r → u ≡ blank e → StoredBy s e v list t u answer
+  pub store_whole : (w t u : List ℕ) (r : ℕ) (answer : Result PairTable Refusal) → w ≡ blank s → Built list w t lg v r → length list ≤ r → told_table answer ≡ record_of lg v r → u ≡ blank e → StoredBy s e v list t u answer
   unfolding store_on
   store_whole w t u r answer clean a l told q =
       let all : r ≡ length list = omega (arith, a.within) in
@@ -184,14 +191,14 @@ pub build_chain : (s e : List ℕ) (v : ℕ) (list : List ℕ) → build_of s e 
 unfolding build_of lent_judged build_on store_on
 build_chain s e v list = chain (unequal s e) (ltb v 3 || ltb 32 v) (ltb (2 ^ 28) (length list)) (items_judged v 0 list) (build_on s v list)
 
-pub growth_refused : (s e : List ℕ) (v : ℕ) (list : List ℕ) (why : Refusal) → told why ≡ growth_judged s (build_lg (length list)) v → BuiltBy s e v list s e (table.Refused why)
+pub growth_refused : (s e : List ℕ) (v : ℕ) (list : List ℕ) (why : Refusal) → told why ≡ growth_judged s (build_lg (length list)) v → BuiltBy s e v list s e (Err why)
 unfolding build_on
 growth_refused s e v list why r = built_refused (build_on s v list) (growth_judged s (build_lg (length list)) v) (store_on v list) v list s e why refl r (growth_leaves s (build_lg (length list)) v)
 
 -- an outcome for an equal one
-pub made_as : (one other : Outcome) (v : ℕ) (list s e t u : List ℕ) (answer : TableAnswer) → other ≡ one → MadeBy one v list s e t u answer → MadeBy other v list s e t u answer
+pub made_as : (one other : Outcome) (v : ℕ) (list s e t u : List ℕ) (answer : Result PairTable Refusal) → other ≡ one → MadeBy one v list s e t u answer → MadeBy other v list s e t u answer
 made_as one other v list s e t u answer is w = subst (λ (o : Outcome). MadeBy o v list s e t u answer) (sym is) w
 
-pub growth_done : (s e : List ℕ) (v : ℕ) (list t u : List ℕ) (answer : TableAnswer) → growth_judged s (build_lg (length list)) v ≡ accepted [] → StoredBy s e v list t u answer → BuiltBy s e v list t u answer
+pub growth_done : (s e : List ℕ) (v : ℕ) (list t u : List ℕ) (answer : Result PairTable Refusal) → growth_judged s (build_lg (length list)) v ≡ accepted [] → StoredBy s e v list t u answer → BuiltBy s e v list t u answer
 unfolding build_on
 growth_done s e v list t u answer j w = made_as (store_on v list) (build_on s v list) v list s e t u answer (ap (λ (o : Outcome). and_then o (store_on v list)) j) w

@@ -1,26 +1,20 @@
--- Document 01's number and values for each answer. Assumes nothing.
-use Rattle.std.specs.Prelude.{[]}
-use Rattle.refusals.specs.Outcome.{Outcome, accepted}
-use Rattle.refusals.specs.Told.{told}
-use Rattle.tables.specs.Calls.{record_of, unchanged, changed}
-use Rattle.pair_table.specs.declared.TableAnswer.{TableAnswer}
-use Rattle.pair_table.specs.declared.TableAnswer.TheVariants as table
-use Rattle.pair_table.specs.declared.ChangeAnswer.{ChangeAnswer}
-use Rattle.pair_table.specs.declared.ChangeAnswer.TheVariants as change
-use Rattle.pair_table.specs.declared.Verdict.{Verdict}
-use Rattle.pair_table.specs.declared.Verdict.TheVariants as verdict
+-- Document 01's number and values for each answer that is not one number. Assumes nothing.
+use Rattle.std.specs.Prelude.{ℕ, List, [], ◌∷◌, Option, Some, None, Result}
+use Rattle.refusals.specs.Outcome.{Outcome}
+use Rattle.refusals.specs.Told.{told_by}
+use Rattle.refusals.specs.declared.Refusal.{Refusal}
+use Rattle.pair_table.specs.declared.PairTable.{PairTable}
 
-abbrev pub told_table : TableAnswer → Outcome
-told_table (table.Made t) = record_of t.lg t.valid t.items
-told_table (table.Refused why) = told why
+abbrev pub record_values : PairTable → List ℕ
+record_values t = t.lg ∷ t.valid ∷ t.items ∷ []
+
+abbrev pub told_table : Result PairTable Refusal → Outcome
+told_table answer = told_by record_values answer
 
 -- an answer of true has the new record with it
-abbrev pub told_change : ChangeAnswer → Outcome
-told_change (change.Changed t) = changed t.lg t.valid t.items
-told_change change.Unchanged = unchanged
-told_change (change.Refused why) = told why
+abbrev pub change_values : Option PairTable → List ℕ
+change_values (Some t) = 1 ∷ record_values t
+change_values None = 0 ∷ []
 
--- a table that is lawful, and an item that may go in, have no values
-abbrev pub told_verdict : Verdict → Outcome
-told_verdict verdict.Passes = accepted []
-told_verdict (verdict.Refused why) = told why
+abbrev pub told_change : Result (Option PairTable) Refusal → Outcome
+told_change answer = told_by change_values answer

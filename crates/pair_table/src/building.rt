@@ -1,18 +1,21 @@
 // A table built from a list of items.
 // After `from_slots` in src/cpc/pair_table.rs of the Rust crate datasketches 0.5.0 (Apache-2.0); changed: see lib.rt, and a list is stored without a search while it rises; after that an
 // item above all before it is searched for from where the last search ended. So a rising list is stored in one pass.
-ghost use Rattle.std.specs.Prelude.{◌≡◌, ◌⊎◌, ℕ, ◌+◌, ◌-◌, ◌*◌, ◌^◌, ◌≤◌, ◌<◌, length, get_or};
-ghost use Rattle.tables.specs.Slots.{empty, spot, items};
+ghost use Rattle.std.specs.Prelude.{◌≡◌, ◌+◌, ◌≤◌, ◌<◌, ◌^◌, length, IfOk};
+ghost use Rattle.refusals.specs.Told.{told_plain};
+ghost use Rattle.tables.specs.Slots.{spot, items};
 ghost use Rattle.tables.specs.Changes.{blank, build_lg};
-ghost use Rattle.tables.specs.Shapes.{RunUp, Lawful, Built};
+ghost use Rattle.tables.specs.Shapes.{RunUp, Lawful};
 ghost use Rattle.tables.specs.Calls.{items_judged};
-ghost use Rattle.pair_table.specs.Told.{told_verdict};
-ghost use Rattle.pair_table.specs.Steps.{NoneAbove, lent_judged, Buildable, BuiltTo, StoredBy, BuiltBy};
+ghost use Rattle.pair_table.specs.Steps.{NoneAbove, lent_judged, BuiltTo, BuiltUp, StoredBy, BuiltBy};
 
+use super::PairTable;
+use super::batch::Batch;
 use super::changing::{fit, wipe};
-use super::lawfulness::{judge_growth, judge_item, larger};
-use super::slots::{dist, home_of, seek, size, step};
-use super::{PairTable, TableAnswer, Verdict};
+use super::item::Item;
+use super::judged_list::JudgedList;
+use super::judging::{judge_growth, judge_item};
+use super::lawfulness::Row;
 use refusals::Refusal;
 
 // A number that no item is above. There is no way out of the loop, so that it runs many at a time.
@@ -20,96 +23,84 @@ fn highest(list: &[u32]) -> u32
     ensures { NoneAbove list.now (length list.now) result }
 {
     let mut top = 0;
-    let mut i = 0;
-    while i < list.len() {
-        top = larger(top, list[i]);
-        i += 1;
+    for x in list {
+        top = top.max(*x);
     }
     top
 }
 
 // The first bad item, by one after the other.
-fn first_bad(v: u8, list: &[u32]) -> Verdict
-    requires { v ≤ 32 }
-    ensures { told_verdict result ≡ items_judged v 0 list.now }
+#[tactic(auto, using(crate::proofs::StoringLists::judgings))]
+fn first_bad(valid: u8, list: &[u32]) -> Result<(), Refusal>
+    ensures { told_plain result ≡ items_judged valid 0 list.now }
 {
-    let mut i = 0;
-    while i < list.len() {
-        if let Verdict::Refused(why) = judge_item(v, list[i], i as u64) {
-            return Verdict::Refused(why);
-        }
-        i += 1;
+    for (i, x) in list.iter().enumerate() {
+        judge_item(valid, *x, i as u64)?;
     }
-    Verdict::Passes
+    Ok(())
 }
 
 // Refusals 10, 12: the first bad item, searched for only where the highest is bad.
-fn judge_items(v: u8, list: &[u32]) -> Verdict
-    requires { v ≤ 32 }
-    ensures { told_verdict result ≡ items_judged v 0 list.now }
+fn judge_items(valid: u8, list: &[u32]) -> Result<(), Refusal>
+    ensures { told_plain result ≡ items_judged valid 0 list.now }
 {
-    let top = highest(list);
-    if let Verdict::Refused(_) = judge_item(v, top, 0) {
-        return first_bad(v, list);
+    if judge_item(valid, highest(list), 0).is_err() {
+        return first_bad(valid, list);
     }
-    Verdict::Passes
+    Ok(())
 }
 
 // Refusals 2, 15, 4, 10, 12.
-pub fn judge_lent(v: u8, list: &[u32], region: &[u32], spare: &[u32]) -> Verdict
-    ensures { told_verdict result ≡ lent_judged region.now spare.now v list.now }
+#[tactic(auto, using(laws::proofs::Choices::choices), unfolding(crate::specs::Steps::lent_judged))]
+pub fn judge_lent<'a>(
+    valid: u8,
+    list: &'a [u32],
+    region: &[u32],
+    spare: &[u32],
+) -> Result<JudgedList<'a>, Refusal>
+    ensures says { told_plain result ≡ lent_judged region.now spare.now valid list.now }
+    ensures same { IfOk result (λ judged. (judged.list.now ≡ list.now) × (judged.valid ≡ valid)) }
 {
     if region.len() != spare.len() {
-        return Verdict::Refused(Refusal::WrongLength);
+        return Err(Refusal::WrongLength);
     }
-    if v < 3 {
-        return Verdict::Refused(Refusal::NotLawful);
-    }
-    if 32 < v {
-        return Verdict::Refused(Refusal::NotLawful);
+    if valid < 3 || 32 < valid {
+        return Err(Refusal::NotLawful);
     }
     if 0x1000_0000 < list.len() {
-        return Verdict::Refused(Refusal::TooManyPairs);
+        return Err(Refusal::TooManyPairs);
     }
-    judge_items(v, list)
+    judge_items(valid, list)?;
+    Ok(JudgedList { list, valid })
 }
 
-// The least lg from 2 up at which so many items fit; 27 where it would pass 26.
+// The least lg from 2 up at which so many items fit; 27 where it would pass 26, and no Option: `build_lg`, of which `build_of` speaks, says 27 there.
+#[tactic(auto, using(crate::proofs::StoringLists::sizings))]
 fn lg_for(items: u32) -> u8
-    ensures { (result ≡ build_lg items) × (result ≤ 27) }
+    ensures { (result ≡ build_lg items) × (2 ≤ result) × (result ≤ 27) }
 {
-    let mut lg: u8 = 2;
-    while lg < 27 {
+    for lg in 2..27 {
         if fit(items, lg) {
             return lg;
         }
-        lg += 1;
     }
-    lg
+    27
 }
 
-// Where the search for an item ends. It begins at p, the end of a row of items, where the item is above them and its home is among them: its search would pass them all.
-fn locate(slots: &[u32], lg: u8, v: u8, item: u32, p: usize, len: usize, top: u32) -> usize
-    requires lawful { Lawful slots.now lg v (items slots.now (2 ^ lg)) }
-    requires item_bound { (item < 2 ^ v) × (item ≡ empty → ⊥) × (p < 2 ^ lg) × RunUp slots.now (2 ^ lg) p len top }
-    ensures { (result ≡ spot slots.now lg v item) × (result < 2 ^ lg) }
-{
-    let n = size(lg);
-    let h = home_of(lg, v, item);
-    let d = dist(n, h, p);
-    if d <= len {
-        if top < item {
-            return seek(slots, n, item, p);
+impl Item {
+    // Where the search for it ends. It begins at the end of a row of items, where the item is above them and its home is among them: its search would pass them all.
+    #[tactic(auto, unfolding(tables::specs::Slots::spot))]
+    fn locate(self, slots: &[u32], row: Row) -> usize
+        requires lawful { Lawful slots.now self.shape.lg self.shape.valid (items slots.now (2 ^ self.shape.lg)) }
+        requires row { (row.end < 2 ^ self.shape.lg) × RunUp slots.now (2 ^ self.shape.lg) row.end row.len row.top }
+        ensures { (result ≡ spot slots.now self.shape.lg self.shape.valid self.value) × (result < 2 ^ self.shape.lg) }
+    {
+        let home = self.home();
+        if self.shape.dist(home, row.end) <= row.len && row.top < self.value {
+            return self.seek(slots, row.end);
         }
+        self.seek(slots, home)
     }
-    seek(slots, n, item, h)
-}
-
-// The later of two slots.
-fn later(a: usize, b: usize) -> usize
-    ensures { (a ≤ result) × (b ≤ result) × ((result ≡ a) ⊎ (result ≡ b)) }
-{
-    if a < b { b } else { a }
 }
 
 // How many items of a list are stored, and a number that all of them are below.
@@ -119,111 +110,102 @@ struct Risen {
     least: u32,
 }
 
-// Stores the items of a list in an empty table while they rise and no search wraps. No slot is read: from p on all are empty, and from the home of an item above
-// all before it up to p none is, so that its search ends at p or at its home.
-fn build_rising(list: &[u32], slots: &mut [u32], lg: u8, v: u8) -> Risen
-    requires lawful { (Lawful slots.old lg v 0) × (4 * length list.now ≤ 3 * 2 ^ lg) }
-    requires by_index { (k : ℕ) → k < length list.now → (get_or list.now k 0 < 2 ^ v) × (get_or list.now k 0 ≡ empty → ⊥) }
-    ensures { BuiltTo list.now slots.old slots.new lg v result.least result.count }
-{
-    let n = size(lg);
-    let mut p = 0;
-    let mut least = 0;
-    let mut i = 0;
-    while i < list.len() {
-        let x = list[i];
-        if x < least {
-            return Risen { count: i, least };
+impl Batch<'_> {
+    // Stores the items in an empty table while they rise and no search wraps. No slot is read: from p on all are empty, and from the home of an item above
+    // all before it up to p none is, so that its search ends at p or at its home.
+    fn build_rising(self, slots: &mut [u32]) -> Risen
+        requires { Lawful slots.old self.shape.lg self.shape.valid 0 }
+        ensures { BuiltTo self.entry.list.now slots.old slots.new self.entry.shape.lg self.entry.shape.valid result.least result.count }
+    {
+        let shape = self.shape;
+        let n = shape.size();
+        let mut p = 0;
+        let mut least = 0;
+        for (i, x) in self.list.iter().enumerate() {
+            let x = *x;
+            let item = Item { value: x, shape };
+            let q = item.home().max(p);
+            if x < least || n <= q {
+                return Risen { count: i, least };
+            }
+            slots[q] = x;
+            p = q + 1;
+            least = x + 1;
         }
-        let h = home_of(lg, v, x);
-        let q = later(h, p);
-        if n <= q {
-            return Risen { count: i, least };
+        Risen {
+            count: self.list.len(),
+            least,
         }
-        slots[q] = x;
-        p = q + 1;
-        least = x + 1;
-        i += 1;
     }
-    Risen { count: i, least }
-}
 
-// One less, or 0.
-fn one_less(a: u32) -> u32
-    ensures { result ≡ a - 1 }
-{
-    if a == 0 { 0 } else { a - 1 }
-}
-
-// Stores the items of a list from index `count` on, after those before it, up to the first that is there already, and says how many there are then. None before is above `most`.
-fn build_rest(list: &[u32], slots: &mut [u32], lg: u8, v: u8, count: usize, most: u32) -> usize
-    requires built_to { BuiltTo list.now (blank slots.old) slots.old lg v (most + 1) count × (4 * length list.now ≤ 3 * 2 ^ lg) }
-    requires by_index { (k : ℕ) → k < length list.now → (get_or list.now k 0 < 2 ^ v) × (get_or list.now k 0 ≡ empty → ⊥) }
-    ensures { Built list.now (blank slots.old) slots.new lg v result }
-{
-    let n = size(lg);
-    let mut p = 0;
-    let mut len = 0;
-    let mut top = most;
-    let mut i = count;
-    while i < list.len() {
-        let x = list[i];
-        let q = locate(slots, lg, v, x, p, len, top);
-        if slots[q] == x {
-            return i;
+    // Stores the items from index `count` on, after those before it, up to the first that is there already: its place, if there is one. None before is above `most`.
+    fn build_rest(self, slots: &mut [u32], count: usize, most: u32) -> Option<usize>
+        requires { BuiltTo self.list.now (blank slots.old) slots.old self.shape.lg self.shape.valid (most + 1) count }
+        ensures { BuiltUp self.entry.list.now (blank slots.old) slots.new self.entry.shape.lg self.entry.shape.valid result }
+    {
+        let list = self.list;
+        let shape = self.shape;
+        let mut row = Row {
+            end: 0,
+            len: 0,
+            top: most,
+        };
+        // by index: the answer is the item's place in the whole list, which a walk over the rest alone would have to add up again
+        for i in count..list.len() {
+            let x = list[i];
+            let item = Item { value: x, shape };
+            let q = item.locate(slots, row);
+            if slots[q] == x {
+                return Some(i);
+            }
+            slots[q] = x;
+            if row.top < x {
+                row = Row {
+                    end: shape.step(q),
+                    len: shape.dist(item.home(), q) + 1,
+                    top: x,
+                };
+            }
         }
-        slots[q] = x;
-        if top < x {
-            let h = home_of(lg, v, x);
-            len = dist(n, h, q) + 1;
-            p = step(n, q);
-            top = x;
-        }
-        i += 1;
+        None
     }
-    i
-}
 
-// Stores the items of a list in an empty table, up to the first that is there already, and says how many.
-fn build_into(list: &[u32], slots: &mut [u32], lg: u8, v: u8) -> usize
-    requires lawful { (Lawful slots.old lg v 0) × (4 * length list.now ≤ 3 * 2 ^ lg) }
-    requires by_index { (k : ℕ) → k < length list.now → (get_or list.now k 0 < 2 ^ v) × (get_or list.now k 0 ≡ empty → ⊥) }
-    ensures { Built list.now slots.old slots.new lg v result }
-{
-    let risen = build_rising(list, slots, lg, v);
-    let most = one_less(risen.least);
-    build_rest(list, slots, lg, v, risen.count, most)
-}
+    // Stores the items in an empty table, up to the first that is there already: its place, if there is one.
+    fn build_into(self, slots: &mut [u32]) -> Option<usize>
+        requires { Lawful slots.old self.shape.lg self.shape.valid 0 }
+        ensures { BuiltUp self.entry.list.now slots.old slots.new self.entry.shape.lg self.entry.shape.valid result }
+    {
+        let risen = self.build_rising(slots);
+        self.build_rest(slots, risen.count, risen.least.saturating_sub(1))
+    }
 
-// All is judged but whether an item stands twice: refusal 11, or the table.
-fn store_list(v: u8, list: &[u32], region: &mut [u32], spare: &mut [u32], lg: u8) -> TableAnswer
-    requires { Buildable v list.now × (lg ≡ build_lg (length list.now)) × (lg ≤ 26) × (lg < v) × (2 ^ lg ≤ length region.old) }
-    ensures { StoredBy region.old spare.old v list.now region.new spare.new result }
-{
-    wipe(region);
-    wipe(spare);
-    let stored = build_into(list, region, lg, v);
-    if stored < list.len() {
+    // All is judged but whether an item stands twice: refusal 11, or the table.
+    fn store(self, region: &mut [u32], spare: &mut [u32]) -> Result<PairTable, Refusal>
+        requires { (self.shape.lg ≡ build_lg (length self.list.now)) × (2 ^ self.shape.lg ≤ length region.old) }
+        ensures { StoredBy region.old spare.old self.entry.shape.valid self.entry.list.now region.new spare.new result }
+    {
         wipe(region);
-        return TableAnswer::Refused(Refusal::NotAbove {
-            place: stored as u64,
-        });
+        wipe(spare);
+        if let Some(place) = self.build_into(region) {
+            wipe(region);
+            return Err(Refusal::NotAbove {
+                place: place as u64,
+            });
+        }
+        Ok(self.shape.table(self.list.len() as u32))
     }
-    TableAnswer::Made(PairTable {
-        lg,
-        valid: v,
-        items: stored as u32,
-    })
 }
 
-// What was lent is judged: refusals 13, 5, 11, or the table.
-pub fn build_judged(v: u8, list: &[u32], region: &mut [u32], spare: &mut [u32]) -> TableAnswer
-    requires { Buildable v list.now }
-    ensures { BuiltBy region.old spare.old v list.now region.new spare.new result }
+// What was lent is judged: refusals 13, 5, 11, or the table. Region and spare stay two parameters, as in changing.rt: a struct that holds a `&mut` is no plainer.
+pub fn build_judged(
+    judged: JudgedList,
+    region: &mut [u32],
+    spare: &mut [u32],
+) -> Result<PairTable, Refusal>
+    ensures { BuiltBy region.old spare.old judged.entry.valid judged.entry.list.now region.new spare.new result }
 {
+    let list = judged.list;
     let lg = lg_for(list.len() as u32);
-    match judge_growth(region, lg, v) {
-        Verdict::Refused(why) => TableAnswer::Refused(why),
-        Verdict::Passes => store_list(v, list, region, spare, lg),
-    }
+    let shape = judge_growth(region, lg, judged.valid)?;
+    Batch { list, shape }.store(region, spare)
 }

@@ -4,17 +4,27 @@
 #![tactic(auto)]
 
 ghost use Rattle.std.specs.Prelude.{◌≡◌};
+ghost use Rattle.refusals.specs.Told.{told_plain};
 ghost use Rattle.tables.specs.Calls.{table_judged, new_of, blank_if, build_of, build_region, build_spare, insert_of, insert_region, delete_of, delete_region, spare_after, clear_of};
-ghost use Rattle.pair_table.specs.Told.{told_table, told_change, told_verdict};
+ghost use Rattle.pair_table.specs.Told.{told_table, told_change};
 
+mod batch;
 mod building;
 mod changing;
+mod item;
+mod judged;
+mod judged_list;
+mod judging;
 mod lawfulness;
+mod region;
+mod shape;
 mod slots;
 
-use changing::wipe;
-use lawfulness::{judge_call, judge_new};
+pub use judged::JudgedTable;
+pub use judging::judge_table;
+use judging::{judge_call, judge_new};
 use refusals::Refusal;
+pub use shape::Shape;
 
 // The empty slot.
 pub const EMPTY: u32 = 0xFFFF_FFFF;
@@ -29,114 +39,73 @@ pub struct PairTable {
     pub items: u32,
 }
 
-#[derive(Clone, Copy)]
-pub enum TableAnswer {
-    Made(PairTable),
-    Refused(Refusal),
-}
-
-// What an insert or a delete answers: true with the new record, or false.
-#[derive(Clone, Copy)]
-pub enum ChangeAnswer {
-    Changed(PairTable),
-    Unchanged,
-    Refused(Refusal),
-}
-
-// What the judging of a lent table says.
-#[derive(Clone, Copy)]
-pub enum Verdict {
-    Passes,
-    Refused(Refusal),
-}
-
 // Whether a lent table is lawful: refusals 2, 15, which every call that is lent one tries first.
-pub fn judge(table: PairTable, region: &[u32], spare: &[u32]) -> Verdict
-    ensures { told_verdict result ≡ table_judged region.now spare.now table.lg table.valid table.items }
+pub fn judge(table: PairTable, region: &[u32], spare: &[u32]) -> Result<(), Refusal>
+    ensures { told_plain result ≡ table_judged region.now spare.now table.lg table.valid table.items }
 {
-    lawfulness::judge_table(region, spare, table.lg, table.valid, table.items)
+    judge_table(table, region, spare)?;
+    Ok(())
 }
 
 // An empty table of 2^lg slots.
-pub fn new(lg: u8, valid: u8, region: &mut [u32], spare: &mut [u32]) -> TableAnswer
+pub fn new(lg: u8, valid: u8, region: &mut [u32], spare: &mut [u32]) -> Result<PairTable, Refusal>
     ensures { (told_table result ≡ new_of region.old spare.old lg valid)
         × (region.new ≡ blank_if (new_of region.old spare.old lg valid) region.old)
         × (spare.new ≡ blank_if (new_of region.old spare.old lg valid) spare.old) }
 {
-    match judge_new(region, spare, lg, valid) {
-        Verdict::Refused(why) => TableAnswer::Refused(why),
-        Verdict::Passes => {
-            wipe(region);
-            wipe(spare);
-            TableAnswer::Made(PairTable {
-                lg,
-                valid,
-                items: 0,
-            })
-        }
-    }
+    let shape = judge_new(lg, valid, region, spare)?;
+    Ok(shape.empty_table(region, spare))
 }
 
 // A table of the items of a list, in the fewest slots that they may fill.
-pub fn build(valid: u8, list: &[u32], region: &mut [u32], spare: &mut [u32]) -> TableAnswer
+pub fn build(
+    valid: u8,
+    list: &[u32],
+    region: &mut [u32],
+    spare: &mut [u32],
+) -> Result<PairTable, Refusal>
     ensures { (told_table result ≡ build_of region.old spare.old valid list.now)
         × (region.new ≡ build_region region.old spare.old valid list.now)
         × (spare.new ≡ build_spare region.old spare.old valid list.now) }
 {
-    match building::judge_lent(valid, list, region, spare) {
-        Verdict::Refused(why) => TableAnswer::Refused(why),
-        Verdict::Passes => building::build_judged(valid, list, region, spare),
-    }
+    let judged = building::judge_lent(valid, list, region, spare)?;
+    building::build_judged(judged, region, spare)
 }
 
-// Stores an item; false where it is there already.
-pub fn insert(table: PairTable, region: &mut [u32], spare: &mut [u32], item: u32) -> ChangeAnswer
+// Stores an item, and answers with the new record; with none where the item is there already.
+pub fn insert(
+    table: PairTable,
+    region: &mut [u32],
+    spare: &mut [u32],
+    item: u32,
+) -> Result<Option<PairTable>, Refusal>
     ensures { (told_change result ≡ insert_of region.old spare.old table.lg table.valid table.items item)
         × (region.new ≡ insert_region region.old spare.old table.lg table.valid table.items item)
         × (spare.new ≡ spare_after (insert_of region.old spare.old table.lg table.valid table.items item) spare.old) }
 {
-    let lg = table.lg;
-    let v = table.valid;
-    let c = table.items;
-    match judge_call(region, spare, lg, v, c, item) {
-        Verdict::Refused(why) => ChangeAnswer::Refused(why),
-        Verdict::Passes => changing::insert_judged(region, spare, lg, v, c, item),
-    }
+    judge_call(table, region, spare, item)?.insert(region, spare, table.items)
 }
 
-// Takes an item out; false where it is not there.
-pub fn delete(table: PairTable, region: &mut [u32], spare: &mut [u32], item: u32) -> ChangeAnswer
+// Takes an item out, and answers with the new record; with none where the item is not there.
+pub fn delete(
+    table: PairTable,
+    region: &mut [u32],
+    spare: &mut [u32],
+    item: u32,
+) -> Result<Option<PairTable>, Refusal>
     ensures { (told_change result ≡ delete_of region.old spare.old table.lg table.valid table.items item)
         × (region.new ≡ delete_region region.old spare.old table.lg table.valid table.items item)
         × (spare.new ≡ spare_after (delete_of region.old spare.old table.lg table.valid table.items item) spare.old) }
 {
-    let lg = table.lg;
-    let v = table.valid;
-    let c = table.items;
-    match judge_call(region, spare, lg, v, c, item) {
-        Verdict::Refused(why) => ChangeAnswer::Refused(why),
-        Verdict::Passes => changing::delete_judged(region, spare, lg, v, c, item),
-    }
+    judge_call(table, region, spare, item)?.delete(region, spare, table.items)
 }
 
 // Empties a table, and keeps its size.
-pub fn clear(table: PairTable, region: &mut [u32], spare: &mut [u32]) -> TableAnswer
+pub fn clear(table: PairTable, region: &mut [u32], spare: &mut [u32]) -> Result<PairTable, Refusal>
     ensures { (told_table result ≡ clear_of region.old spare.old table.lg table.valid table.items)
         × (region.new ≡ blank_if (clear_of region.old spare.old table.lg table.valid table.items) region.old)
         × (spare.new ≡ blank_if (clear_of region.old spare.old table.lg table.valid table.items) spare.old) }
 {
-    let lg = table.lg;
-    let valid = table.valid;
-    match lawfulness::judge_table(region, spare, lg, valid, table.items) {
-        Verdict::Refused(why) => TableAnswer::Refused(why),
-        Verdict::Passes => {
-            wipe(region);
-            wipe(spare);
-            TableAnswer::Made(PairTable {
-                lg,
-                valid,
-                items: 0,
-            })
-        }
-    }
+    let shape = judge_table(table, region, spare)?.shape;
+    Ok(shape.empty_table(region, spare))
 }

@@ -12,9 +12,9 @@ pub data Outcome : Type 0 where
 
 -- the same as three numbers: 0 for what it does not carry
 abbrev pub numbers_in : Outcome → Numbered
-numbers_in (accepted values) = record { 0 = 0; 1 = 0; 2 = 0 }
-numbers_in (refused number place) = record { 0 = number; 1 = place; 2 = 0 }
-numbers_in (stopped number place bit) = record { 0 = number; 1 = place; 2 = bit }
+numbers_in (accepted values) = record { number = 0; place = 0; bit = 0 }
+numbers_in (refused number place) = record { number = number; place = place; bit = 0 }
+numbers_in (stopped number place bit) = record { number = number; place = place; bit = bit }
 
 -- what lent memory holds afterwards: as the call says where it is accepted, else as before
 abbrev pub if_accepted {ℓ} : {A : Type ℓ} → Outcome → A → A → A

@@ -1,8 +1,10 @@
 -- Document 01's number and place of each refusal, and the bit position of a reader's. Assumes nothing.
-use Rattle.refusals.specs.Outcome.{Outcome, refused, stopped}
+use Rattle.std.specs.Prelude.{ℕ, List, [], ◌∷◌, Result, Ok, Err}
+use Rattle.refusals.specs.Outcome.{Outcome, accepted, refused, stopped}
 use Rattle.refusals.specs.declared.Reason.{Reason}
 use Rattle.refusals.specs.declared.Reason.TheVariants as reason
 use Rattle.refusals.specs.declared.Refusal.{Refusal}
+use Rattle.refusals.specs.declared.units.StreamLength.{StreamLength}
 use Rattle.refusals.specs.declared.Refusal.TheVariants.{LgOutside, WrongLength, WrongBook, TooManyPairs, NoRoom, Reading, RowNotBelow, Reserved, NotAbove, ItemNotBelow, CannotGrow, WrongWindow, NotLawful, SeedsDiffer, WrongCoupons}
 
 abbrev pub told_reason : Reason → Outcome
@@ -28,3 +30,20 @@ told (WrongWindow place) = refused 14 place
 told NotLawful = refused 15 0
 told SeedsDiffer = refused 16 0
 told WrongCoupons = refused 17 0
+
+-- what a public call answers: the values of an accepted call, or its refusal
+abbrev pub told_by : {A : Type 0} → (A → List ℕ) → Result A Refusal → Outcome
+told_by values (Ok answer) = accepted (values answer)
+told_by values (Err why) = told why
+
+-- an acceptance that is told without values, whatever it gives
+abbrev pub told_plain : {A : Type 0} → Result A Refusal → Outcome
+told_plain answer = told_by (λ _. []) answer
+
+-- one number
+abbrev pub told_number : Result ℕ Refusal → Outcome
+told_number answer = told_by (λ n. n ∷ []) answer
+
+-- the length of a stream: its bits, and its words
+abbrev pub told_length : Result StreamLength Refusal → Outcome
+told_length answer = told_by (λ s. s.bits.0 ∷ s.words.0 ∷ []) answer

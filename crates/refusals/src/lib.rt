@@ -2,13 +2,14 @@
 #![tactic(auto)]
 
 ghost use Rattle.std.specs.Prelude.{◌≡◌};
-ghost use Rattle.refusals.specs.Outcome.{numbers_in};
-ghost use Rattle.refusals.specs.Told.{told};
+ghost use Rattle.refusals.specs.Outcome.{stopped, numbers_in};
+ghost use Rattle.refusals.specs.Told.{told, told_reason};
 
 pub mod units;
 
 // Why a reader stopped: 6 to 9, and its own 10. `place` is the index of the pair or byte, `bit` a position in the stream: of 6 the first bit of the look
 // that failed, else the bit after the pair.
+// Each case has its place and bit: a struct of them around an enum would be no plainer for whoever matches a reason.
 #[derive(Clone, Copy)]
 pub enum Reason {
     // 6: the stream ends inside a read
@@ -57,35 +58,57 @@ pub enum Refusal {
     WrongCoupons,
 }
 
-// A refusal in document 01's numbers: its number, its place and its bit position.
+// A refusal in document 01's numbers, in which C takes it: its number, its place and its bit position.
 #[derive(Clone, Copy)]
-pub struct Numbered(pub u32, pub u64, pub u64);
+pub struct Numbered {
+    pub number: u32,
+    pub place: u64,
+    pub bit: u64,
+}
+
+impl Numbered {
+    fn of(number: u32, place: u64, bit: u64) -> Numbered
+        ensures { result ≡ numbers_in (stopped number place bit) }
+    {
+        Numbered { number, place, bit }
+    }
+}
 
 // The one place where a refusal becomes numbers: 0 for a place or a bit that it does not carry.
-pub fn numbers_of(refusal: Refusal) -> Numbered
-    ensures { result ≡ numbers_in (told refusal) }
-{
-    match refusal {
-        Refusal::LgOutside => Numbered(1, 0, 0),
-        Refusal::WrongLength => Numbered(2, 0, 0),
-        Refusal::WrongBook { place } => Numbered(3, place, 0),
-        Refusal::TooManyPairs => Numbered(4, 0, 0),
-        Refusal::NoRoom => Numbered(5, 0, 0),
-        Refusal::Reading(reason) => match reason {
-            Reason::StreamEnds { place, bit } => Numbered(6, place, bit),
-            Reason::RowStepTooLarge { place, bit } => Numbered(7, place, bit),
-            Reason::RowNotBelow { place, bit } => Numbered(8, place, bit),
-            Reason::ColumnNotBelow { place, bit } => Numbered(9, place, bit),
-            Reason::Reserved { place, bit } => Numbered(10, place, bit),
-        },
-        Refusal::RowNotBelow { place } => Numbered(8, place, 0),
-        Refusal::Reserved { place } => Numbered(10, place, 0),
-        Refusal::NotAbove { place } => Numbered(11, place, 0),
-        Refusal::ItemNotBelow { place } => Numbered(12, place, 0),
-        Refusal::CannotGrow => Numbered(13, 0, 0),
-        Refusal::WrongWindow { place } => Numbered(14, place, 0),
-        Refusal::NotLawful => Numbered(15, 0, 0),
-        Refusal::SeedsDiffer => Numbered(16, 0, 0),
-        Refusal::WrongCoupons => Numbered(17, 0, 0),
+impl From<Refusal> for Numbered {
+    ghost from_gives = { λ refusal numbered. numbered ≡ numbers_in (told refusal) };
+
+    fn from(refusal: Refusal) -> Numbered {
+        match refusal {
+            Refusal::LgOutside => Numbered::of(1, 0, 0),
+            Refusal::WrongLength => Numbered::of(2, 0, 0),
+            Refusal::WrongBook { place } => Numbered::of(3, place, 0),
+            Refusal::TooManyPairs => Numbered::of(4, 0, 0),
+            Refusal::NoRoom => Numbered::of(5, 0, 0),
+            Refusal::Reading(reason) => reason.into(),
+            Refusal::RowNotBelow { place } => Numbered::of(8, place, 0),
+            Refusal::Reserved { place } => Numbered::of(10, place, 0),
+            Refusal::NotAbove { place } => Numbered::of(11, place, 0),
+            Refusal::ItemNotBelow { place } => Numbered::of(12, place, 0),
+            Refusal::CannotGrow => Numbered::of(13, 0, 0),
+            Refusal::WrongWindow { place } => Numbered::of(14, place, 0),
+            Refusal::NotLawful => Numbered::of(15, 0, 0),
+            Refusal::SeedsDiffer => Numbered::of(16, 0, 0),
+            Refusal::WrongCoupons => Numbered::of(17, 0, 0),
+        }
+    }
+}
+
+impl From<Reason> for Numbered {
+    ghost from_gives = { λ reason numbered. numbered ≡ numbers_in (told_reason reason) };
+
+    fn from(reason: Reason) -> Numbered {
+        match reason {
+            Reason::StreamEnds { place, bit } => Numbered::of(6, place, bit),
+            Reason::RowStepTooLarge { place, bit } => Numbered::of(7, place, bit),
+            Reason::RowNotBelow { place, bit } => Numbered::of(8, place, bit),
+            Reason::ColumnNotBelow { place, bit } => Numbered::of(9, place, bit),
+            Reason::Reserved { place, bit } => Numbered::of(10, place, bit),
+        }
     }
 }

@@ -1,22 +1,12 @@
 // Every call, by the crate that makes it.
-use stored_cases::verdicts::Verdict;
+use stored_cases::cases::Case;
+use stored_cases::verdicts::{NoVerdict, Outcome};
 
-pub fn run(line: &[u8]) -> Verdict {
-    let numbers = replay_numbers::run(line);
-    let Verdict::NoSuchCall = numbers else {
-        return numbers;
-    };
-    let books = replay_books::run(line);
-    let Verdict::NoSuchCall = books else {
-        return books;
-    };
-    let streams = replay_streams::run(line);
-    let Verdict::NoSuchCall = streams else {
-        return streams;
-    };
-    let tables = replay_tables::run(line);
-    let Verdict::NoSuchCall = tables else {
-        return tables;
-    };
-    replay_unions::run(line)
+pub fn run(case: Case<'_>) -> Outcome {
+    replay_numbers::run(case)
+        .or_else(|| replay_books::run(case))
+        .or_else(|| replay_streams::run(case))
+        .or_else(|| replay_tables::run(case))
+        .or_else(|| replay_unions::run(case))
+        .unwrap_or(Err(NoVerdict::NotACase))
 }

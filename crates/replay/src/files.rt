@@ -1,110 +1,82 @@
 // A file of stored cases: read whole, then line by line.
 use super::calls;
+use std::alloc::Global;
 use std::fs::File;
 use std::io;
 use std::io::Read;
-use stored_cases::lists::Filled;
-use stored_cases::verdicts::Verdict;
-use stored_cases::{lists_u8, verdicts, words};
+use std::rt::Files;
+use stored_cases::cases::Case;
+use stored_cases::verdicts::{NoVerdict, Outcome, Verdict};
 
-#[derive(Clone, Copy)]
-struct Tally {
-    ran: u64,
-    agreed: u64,
-}
+// The most bytes of a file that is read.
+const LONGEST: usize = 262144;
 
-fn is_at_end(file: &mut File) -> bool {
-    let mut next = [0u8; 1];
-    matches!(file.read(&mut next), Ok(0))
-}
-
-// Reads until the text is full, the file ends or a read fails, and answers how many bytes it put at the start of the text.
-fn read_full(file: &mut File, text: &mut [u8]) -> usize {
-    let mut done = 0;
-    while done < text.len() {
-        match file.read(&mut text[done..]) {
-            Ok(0) => {
-                return done;
-            }
-            Ok(more) => {
-                done += more;
-            }
-            Err(_) => {
-                return done;
-            }
-        }
+// The file's text. `None`: it cannot be read, or is longer.
+fn load<R: Files + AllocGlobal>(rt: &R, name: &str) -> Option<Vec<u8>> {
+    let mut text = Vec::new(rt.alloc());
+    let file = File::open(rt, name).ok()?;
+    file.take(LONGEST as u64 + 1).read_to_end(&mut text).ok()?;
+    if text.len() > LONGEST {
+        return None;
     }
-    done
+    Some(text)
 }
 
-// Puts the file at the start of `text`. `No`: it cannot be read, or is longer.
-fn load(rt: &HostRuntime, name: &str, text: &mut [u8]) -> Filled {
-    match File::open(rt, name) {
-        Ok(mut file) => {
-            let length = read_full(&mut file, text);
-            if is_at_end(&mut file) {
-                return Filled::To(length);
-            }
-            Filled::No
+fn judge(alloc: Global, line: &[u8]) -> Outcome {
+    calls::run(Case::read(alloc, line).ok_or(NoVerdict::NotACase)?)
+}
+
+// What comes of the line, where it is a case.
+fn replay_line<R: Print + AllocGlobal>(
+    rt: &R,
+    name: &str,
+    number: usize,
+    line: &[u8],
+) -> io::Result<Option<Verdict>> {
+    match judge(rt.alloc(), line) {
+        Ok(Verdict::Agrees) => Ok(Some(Verdict::Agrees)),
+        Ok(Verdict::Disagrees) => {
+            println!(rt; "{name} line {number}: disagrees")?;
+            Ok(Some(Verdict::Disagrees))
         }
-        Err(_) => Filled::No,
-    }
-}
-
-fn say(rt: &HostRuntime, name: &str, line: u64, what: &str) -> io::Result<()> {
-    println!(rt; "{name} line {line}: {what}")
-}
-
-fn report(rt: &HostRuntime, name: &str, line: u64, verdict: Verdict) -> io::Result<()> {
-    match verdict {
-        Verdict::Agrees => Ok(()),
-        Verdict::Disagrees => say(rt, name, line, "disagrees"),
-        _ => say(rt, name, line, "not a case"),
+        Err(NoVerdict::NotACase) => {
+            println!(rt; "{name} line {number}: not a case")?;
+            Ok(None)
+        }
+        Err(NoVerdict::OutOfMemory(error)) => Err(error.into()),
     }
 }
 
 fn is_comment(line: &[u8]) -> bool {
-    if line.len() == 0 {
-        return true;
+    line.is_empty() || line.starts_with(b"#")
+}
+
+// What comes of each case.
+fn replay_lines<R: Print + AllocGlobal>(
+    rt: &R,
+    name: &str,
+    text: &[u8],
+) -> io::Result<Vec<Verdict>> {
+    let mut verdicts = Vec::new(rt.alloc());
+    for (place, line) in text.split(|byte| *byte == b'\n').enumerate() {
+        if !is_comment(line) {
+            if let Some(verdict) = replay_line(rt, name, place + 1, line)? {
+                verdicts.push(verdict)?;
+            }
+        }
     }
-    line[0] == b'#'
+    Ok(verdicts)
 }
 
-fn replay_line(rt: &HostRuntime, name: &str, number: u64, line: &[u8]) -> io::Result<Verdict> {
-    if is_comment(line) {
-        return Ok(Verdict::NotACase);
-    }
-    let verdict = calls::run(line);
-    report(rt, name, number, verdict)?;
-    Ok(verdict)
-}
-
-fn replay_lines(rt: &HostRuntime, name: &str, text: &[u8]) -> io::Result<Tally> {
-    let mut ran = 0;
-    let mut agreed = 0;
-    let mut number = 0;
-    let mut at = 0;
-    while at < text.len() {
-        let end = at + words::find(&text[at..], b'\n');
-        number += 1;
-        let verdict = replay_line(rt, name, number, &text[at..end])?;
-        ran += verdicts::ran(verdict);
-        agreed += verdicts::agreed(verdict);
-        at = end + 1;
-    }
-    Ok(Tally { ran, agreed })
-}
-
-fn sum_up(rt: &HostRuntime, name: &str, tally: Tally) -> io::Result<()> {
-    println!(rt; "{name}: {} of {} cases agree", tally.agreed, tally.ran)
-}
-
-pub fn replay(rt: &HostRuntime, name: &str) -> io::Result<()> {
-    let mut space = [0u8; 262144];
-    let text: &mut [u8] = &mut space;
-    let Filled::To(length) = load(rt, name, text) else {
+pub fn replay<R: Files + Print + AllocGlobal>(rt: &R, name: &str) -> io::Result<()> {
+    let Some(text) = load(rt, name) else {
         return println!(rt; "{name}: cannot be read whole, so no case was run");
     };
-    let tally = replay_lines(rt, name, lists_u8::front(text, length))?;
-    sum_up(rt, name, tally)
+    let verdicts = replay_lines(rt, name, &text)?;
+    let ran = verdicts.len();
+    let agreed = verdicts
+        .iter()
+        .filter(|verdict| **verdict == Verdict::Agrees)
+        .count();
+    println!(rt; "{name}: {agreed} of {ran} cases agree")
 }

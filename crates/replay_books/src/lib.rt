@@ -4,12 +4,10 @@
 mod book_calls;
 mod practice_calls;
 
-use stored_cases::verdicts::Verdict;
+use stored_cases::cases::Case;
+use stored_cases::verdicts::Outcome;
 
-pub fn run(line: &[u8]) -> Verdict {
-    let books = book_calls::run(line);
-    let Verdict::NoSuchCall = books else {
-        return books;
-    };
-    practice_calls::run(line)
+// `None`: its call is none of these.
+pub fn run(case: Case<'_>) -> Option<Outcome> {
+    book_calls::run(case).or_else(|| practice_calls::run(case))
 }

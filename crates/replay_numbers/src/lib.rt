@@ -4,12 +4,10 @@
 mod number_calls;
 mod unit_calls;
 
-use stored_cases::verdicts::Verdict;
+use stored_cases::cases::Case;
+use stored_cases::verdicts::Outcome;
 
-pub fn run(line: &[u8]) -> Verdict {
-    let units = unit_calls::run(line);
-    let Verdict::NoSuchCall = units else {
-        return units;
-    };
-    number_calls::run(line)
+// `None`: its call is none of these.
+pub fn run(case: Case<'_>) -> Option<Outcome> {
+    unit_calls::run(case).or_else(|| number_calls::run(case))
 }

@@ -1,33 +1,22 @@
 // The calls of bridgenook's module unit_counts.
 use bridgenook::unit_counts;
-use stored_cases::verdicts::Verdict;
-use stored_cases::words::Number;
-use stored_cases::{answers, words};
+use stored_cases::cases::Case;
+use stored_cases::verdicts::Outcome;
 
-fn words_for(line: &[u8]) -> Verdict {
-    let Number::Is(bits) = words::u64_at(line, 1) else {
-        return Verdict::NotACase;
-    };
-    let mut answer = answers::unwritten();
-    let result = unit_counts::bridgenook_words_for(bits, &mut answer);
-    answers::plain(line, 2, result, &answer)
+// A call on a number of bits or of words.
+fn convert<F: Fn(u64, &mut [u64; 8]) -> u32>(mut case: Case<'_>, call: F) -> Outcome
+    requires { F.IsAlwaysCallable call }
+{
+    let count = case.number()?;
+    let answered = case.make(|answer| call(count, answer))?;
+    answered.verdict()
 }
 
-fn bits_in(line: &[u8]) -> Verdict {
-    let Number::Is(words) = words::u64_at(line, 1) else {
-        return Verdict::NotACase;
+pub fn run(case: Case<'_>) -> Option<Outcome> {
+    let outcome = match case.name {
+        "words_for" => convert(case, unit_counts::bridgenook_words_for),
+        "bits_in" => convert(case, unit_counts::bridgenook_bits_in),
+        _ => return None,
     };
-    let mut answer = answers::unwritten();
-    let result = unit_counts::bridgenook_bits_in(words, &mut answer);
-    answers::plain(line, 2, result, &answer)
-}
-
-pub fn run(line: &[u8]) -> Verdict {
-    if words::is(line, 0, b"words_for") {
-        return words_for(line);
-    }
-    if words::is(line, 0, b"bits_in") {
-        return bits_in(line);
-    }
-    Verdict::NoSuchCall
+    Some(outcome)
 }

@@ -2,294 +2,130 @@
 #![tactic(auto)]
 
 use bridgenook::table_calls;
-use stored_cases::lists::Filled;
-use stored_cases::verdicts::Verdict;
-use stored_cases::words::{NumberU8, NumberU32};
-use stored_cases::{answers, lists_u32, verdicts, words};
+use stored_cases::cases::Case;
+use stored_cases::verdicts::{NoVerdict, Outcome};
 
-// The record of a table.
-#[derive(Clone, Copy)]
-enum Record {
-    Is { lg: u8, valid: u8, items: u32 },
-    No,
+// The most slots that a case lends or lists.
+const SLOTS: usize = 256;
+
+// A table as a case gives it, and the memory that is lent to it.
+#[derive(Drop)]
+struct Table {
+    lg: u8,
+    valid: u8,
+    items: u32,
+    region: Vec<u32>,
+    spare: Vec<u32>,
 }
 
-fn read_record(line: &[u8]) -> Record {
-    let NumberU8::Is(lg) = words::u8_at(line, 1) else {
-        return Record::No;
-    };
-    let NumberU8::Is(valid) = words::u8_at(line, 2) else {
-        return Record::No;
-    };
-    let NumberU32::Is(items) = words::u32_at(line, 3) else {
-        return Record::No;
-    };
-    Record::Is { lg, valid, items }
+impl Table {
+    fn read(case: &mut Case<'_>) -> Result<Table, NoVerdict> {
+        Ok(Table {
+            lg: case.number()?,
+            valid: case.number()?,
+            items: case.number()?,
+            region: case.list::<u32, SLOTS>()?,
+            spare: case.list::<u32, SLOTS>()?,
+        })
+    }
 }
 
-// A region and a spare, each in its buffer: how many slots each has.
-#[derive(Clone, Copy)]
-enum Slots {
-    Are(usize, usize),
-    No,
-}
-
-fn read_slots(first: &[u8], second: &[u8], region: &mut [u32], spare: &mut [u32]) -> Slots {
-    let Filled::To(slots) = lists_u32::read(first, region) else {
-        return Slots::No;
-    };
-    let Filled::To(spares) = lists_u32::read(second, spare) else {
-        return Slots::No;
-    };
-    Slots::Are(slots, spares)
-}
-
-// Whether region and spare hold what is stored: the two lists behind the numbers.
-fn compare_slots(line: &[u8], region: &[u32], spare: &[u32]) -> Verdict {
-    let slots = lists_u32::compare(answers::first_of_two(line), region);
-    let spares = lists_u32::compare(answers::list(line), spare);
-    verdicts::both(slots, spares)
-}
-
-fn new(line: &[u8]) -> Verdict {
-    let NumberU8::Is(lg) = words::u8_at(line, 1) else {
-        return Verdict::NotACase;
-    };
-    let NumberU8::Is(valid) = words::u8_at(line, 2) else {
-        return Verdict::NotACase;
-    };
-    let mut region_space = [0u32; 256];
-    let region: &mut [u32] = &mut region_space;
-    let mut spare_space = [0u32; 256];
-    let spare: &mut [u32] = &mut spare_space;
-    let Slots::Are(slots, spares) = read_slots(
-        words::word(line, 3),
-        words::word(line, 4),
-        region,
-        spare,
-    ) else {
-        return Verdict::NotACase;
-    };
-    let mut answer = answers::unwritten();
-    let result = table_calls::bridgenook_table_new(
-        lg,
-        valid,
-        lists_u32::lent(region, slots),
-        lists_u32::lent(spare, spares),
-        &mut answer,
-    );
-    let said = answers::before_two(line, 5, result, &answer);
-    let after = compare_slots(
-        line,
-        lists_u32::front(region, slots),
-        lists_u32::front(spare, spares),
-    );
-    verdicts::both(said, after)
+fn new(mut case: Case<'_>) -> Outcome {
+    let lg = case.number()?;
+    let valid = case.number()?;
+    let mut region = case.list::<u32, SLOTS>()?;
+    let mut spare = case.list::<u32, SLOTS>()?;
+    let answered = case.make(|answer| {
+        table_calls::bridgenook_table_new(lg, valid, &mut region, &mut spare, answer)
+    })?;
+    answered.compare(&region)?.compare(&spare)?.verdict()
 }
 
 // An insert, or a delete.
-fn make_change(
-    deletes: bool,
-    lg: u8,
-    valid: u8,
-    items: u32,
-    region: &mut [u32],
-    spare: &mut [u32],
-    item: u32,
-    answer: &mut [u64; 8],
-) -> u32 {
-    if deletes {
-        return table_calls::bridgenook_table_delete(lg, valid, items, region, spare, item, answer);
-    }
-    table_calls::bridgenook_table_insert(lg, valid, items, region, spare, item, answer)
-}
-
-fn change(line: &[u8], deletes: bool) -> Verdict {
-    let Record::Is { lg, valid, items } = read_record(line) else {
-        return Verdict::NotACase;
-    };
-    let mut region_space = [0u32; 256];
-    let region: &mut [u32] = &mut region_space;
-    let mut spare_space = [0u32; 256];
-    let spare: &mut [u32] = &mut spare_space;
-    let Slots::Are(slots, spares) = read_slots(
-        words::word(line, 4),
-        words::word(line, 5),
-        region,
-        spare,
-    ) else {
-        return Verdict::NotACase;
-    };
-    let NumberU32::Is(item) = words::u32_at(line, 6) else {
-        return Verdict::NotACase;
-    };
-    let mut answer = answers::unwritten();
-    let result = make_change(
-        deletes,
-        lg,
-        valid,
-        items,
-        lists_u32::lent(region, slots),
-        lists_u32::lent(spare, spares),
+fn change<F: Fn(u8, u8, u32, &mut [u32], &mut [u32], u32, &mut [u64; 8]) -> u32>(
+    mut case: Case<'_>,
+    call: F,
+) -> Outcome
+    requires { F.IsAlwaysCallable call }
+{
+    let mut table = Table::read(&mut case)?;
+    let item = case.number()?;
+    let answered = case.make(|answer| call(
+        table.lg,
+        table.valid,
+        table.items,
+        &mut table.region,
+        &mut table.spare,
         item,
-        &mut answer,
-    );
-    let said = answers::before_two(line, 7, result, &answer);
-    let after = compare_slots(
-        line,
-        lists_u32::front(region, slots),
-        lists_u32::front(spare, spares),
-    );
-    verdicts::both(said, after)
+        answer,
+    ))?;
+    answered
+        .compare(&table.region)?
+        .compare(&table.spare)?
+        .verdict()
 }
 
-fn clear(line: &[u8]) -> Verdict {
-    let Record::Is { lg, valid, items } = read_record(line) else {
-        return Verdict::NotACase;
-    };
-    let mut region_space = [0u32; 256];
-    let region: &mut [u32] = &mut region_space;
-    let mut spare_space = [0u32; 256];
-    let spare: &mut [u32] = &mut spare_space;
-    let Slots::Are(slots, spares) = read_slots(
-        words::word(line, 4),
-        words::word(line, 5),
-        region,
-        spare,
-    ) else {
-        return Verdict::NotACase;
-    };
-    let mut answer = answers::unwritten();
-    let result = table_calls::bridgenook_table_clear(
-        lg,
-        valid,
-        items,
-        lists_u32::lent(region, slots),
-        lists_u32::lent(spare, spares),
-        &mut answer,
-    );
-    let said = answers::before_two(line, 6, result, &answer);
-    let after = compare_slots(
-        line,
-        lists_u32::front(region, slots),
-        lists_u32::front(spare, spares),
-    );
-    verdicts::both(said, after)
+fn clear(mut case: Case<'_>) -> Outcome {
+    let mut table = Table::read(&mut case)?;
+    let answered = case.make(|answer| {
+        table_calls::bridgenook_table_clear(
+            table.lg,
+            table.valid,
+            table.items,
+            &mut table.region,
+            &mut table.spare,
+            answer,
+        )
+    })?;
+    answered
+        .compare(&table.region)?
+        .compare(&table.spare)?
+        .verdict()
 }
 
-fn build(line: &[u8]) -> Verdict {
-    let NumberU8::Is(valid) = words::u8_at(line, 1) else {
-        return Verdict::NotACase;
-    };
-    let mut list_space = [0u32; 256];
-    let list: &mut [u32] = &mut list_space;
-    let Filled::To(listed) = lists_u32::read(words::word(line, 2), list) else {
-        return Verdict::NotACase;
-    };
-    let mut region_space = [0u32; 256];
-    let region: &mut [u32] = &mut region_space;
-    let mut spare_space = [0u32; 256];
-    let spare: &mut [u32] = &mut spare_space;
-    let Slots::Are(slots, spares) = read_slots(
-        words::word(line, 3),
-        words::word(line, 4),
-        region,
-        spare,
-    ) else {
-        return Verdict::NotACase;
-    };
-    let mut answer = answers::unwritten();
-    let result = table_calls::bridgenook_table_build(
-        valid,
-        lists_u32::front(list, listed),
-        lists_u32::lent(region, slots),
-        lists_u32::lent(spare, spares),
-        &mut answer,
-    );
-    let said = answers::before_two(line, 5, result, &answer);
-    let after = compare_slots(
-        line,
-        lists_u32::front(region, slots),
-        lists_u32::front(spare, spares),
-    );
-    verdicts::both(said, after)
+fn build(mut case: Case<'_>) -> Outcome {
+    let valid = case.number()?;
+    let list = case.list::<u32, SLOTS>()?;
+    let mut region = case.list::<u32, SLOTS>()?;
+    let mut spare = case.list::<u32, SLOTS>()?;
+    let answered = case.make(|answer| {
+        table_calls::bridgenook_table_build(valid, &list, &mut region, &mut spare, answer)
+    })?;
+    answered.compare(&region)?.compare(&spare)?.verdict()
 }
 
 // An extraction, or a walk.
-fn make_list(
-    walks: bool,
-    lg: u8,
-    valid: u8,
-    items: u32,
-    region: &[u32],
-    spare: &[u32],
-    out: &mut [u32],
-    answer: &mut [u64; 8],
-) -> u32 {
-    if walks {
-        return table_calls::bridgenook_table_walk(lg, valid, items, region, spare, out, answer);
-    }
-    table_calls::bridgenook_table_extract(lg, valid, items, region, spare, out, answer)
+fn list<F: Fn(u8, u8, u32, &[u32], &[u32], &mut [u32], &mut [u64; 8]) -> u32>(
+    mut case: Case<'_>,
+    call: F,
+) -> Outcome
+    requires { F.IsAlwaysCallable call }
+{
+    let table = Table::read(&mut case)?;
+    let mut out = case.list::<u32, SLOTS>()?;
+    let answered = case.make(|answer| call(
+        table.lg,
+        table.valid,
+        table.items,
+        &table.region,
+        &table.spare,
+        &mut out,
+        answer,
+    ))?;
+    answered.compare(&out)?.verdict()
 }
 
-fn list(line: &[u8], walks: bool) -> Verdict {
-    let Record::Is { lg, valid, items } = read_record(line) else {
-        return Verdict::NotACase;
+// `None`: its call is none of these.
+pub fn run(case: Case<'_>) -> Option<Outcome> {
+    let outcome = match case.name {
+        "table_new" => new(case),
+        "table_insert" => change(case, table_calls::bridgenook_table_insert),
+        "table_delete" => change(case, table_calls::bridgenook_table_delete),
+        "table_clear" => clear(case),
+        "table_build" => build(case),
+        "table_extract" => list(case, table_calls::bridgenook_table_extract),
+        "table_walk" => list(case, table_calls::bridgenook_table_walk),
+        _ => return None,
     };
-    let mut region_space = [0u32; 256];
-    let region: &mut [u32] = &mut region_space;
-    let mut spare_space = [0u32; 256];
-    let spare: &mut [u32] = &mut spare_space;
-    let Slots::Are(slots, spares) = read_slots(
-        words::word(line, 4),
-        words::word(line, 5),
-        region,
-        spare,
-    ) else {
-        return Verdict::NotACase;
-    };
-    let mut out_space = [0u32; 256];
-    let out: &mut [u32] = &mut out_space;
-    let Filled::To(room) = lists_u32::read(words::word(line, 6), out) else {
-        return Verdict::NotACase;
-    };
-    let mut answer = answers::unwritten();
-    let result = make_list(
-        walks,
-        lg,
-        valid,
-        items,
-        lists_u32::front(region, slots),
-        lists_u32::front(spare, spares),
-        lists_u32::lent(out, room),
-        &mut answer,
-    );
-    let said = answers::before_list(line, 7, result, &answer);
-    let after = lists_u32::compare(answers::list(line), lists_u32::front(out, room));
-    verdicts::both(said, after)
-}
-
-pub fn run(line: &[u8]) -> Verdict {
-    if words::is(line, 0, b"table_new") {
-        return new(line);
-    }
-    if words::is(line, 0, b"table_insert") {
-        return change(line, false);
-    }
-    if words::is(line, 0, b"table_delete") {
-        return change(line, true);
-    }
-    if words::is(line, 0, b"table_clear") {
-        return clear(line);
-    }
-    if words::is(line, 0, b"table_build") {
-        return build(line);
-    }
-    if words::is(line, 0, b"table_extract") {
-        return list(line, false);
-    }
-    if words::is(line, 0, b"table_walk") {
-        return list(line, true);
-    }
-    Verdict::NoSuchCall
+    Some(outcome)
 }

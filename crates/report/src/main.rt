@@ -2,87 +2,49 @@
 #![tactic(auto)]
 
 use refusals::Refusal;
-use reporting::{Decision, LineAnswer, Progress};
+use reporting::{Decision, Progress};
 use std::io;
 use std::io::{Read, Write};
-
-#[derive(Clone, Copy)]
-enum Got {
-    Part(Progress),
-    End,
-    Failed,
-}
-
-// One part of the text, read and taken.
-fn read_part(rt: &HostRuntime, progress: Progress, pairs: &mut [u32]) -> io::Result<Got> {
-    let mut part = [0u8; 4096];
-    match rt.stdin().read(&mut part) {
-        Ok(0) => Ok(Got::End),
-        Ok(length) => Ok(Got::Part(reporting::take(progress, &part[..length], pairs))),
-        Err(error) => {
-            eprintln!(rt; "standard input: {error}")?;
-            Ok(Got::Failed)
-        }
-    }
-}
 
 // A text that cannot be read to its end is refused. A proved loop has to end, and nothing says that an input does: the turns are counted up to a number
 // that no run reaches.
 fn read_text(rt: &HostRuntime, pairs: &mut [u32]) -> io::Result<Progress> {
+    let mut part = [0u8; 4096];
     let mut progress = reporting::begin();
     for _ in 0..u64::MAX {
-        match read_part(rt, progress, pairs)? {
-            Got::Part(more) => {
-                progress = more;
-            }
-            Got::End => {
+        match rt.stdin().read(&mut part) {
+            Ok(0) => {
                 return Ok(progress);
             }
-            Got::Failed => {
-                return Ok(Progress::Refused(Refusal::NotLawful));
+            Ok(length) => {
+                progress = reporting::take(progress, &part[..length], pairs);
+            }
+            Err(error) => {
+                eprintln!(rt; "standard input: {error}")?;
+                return Ok(Err(Refusal::NotLawful));
             }
         }
     }
-    Ok(Progress::Refused(Refusal::NotLawful))
+    Ok(Err(Refusal::NotLawful))
 }
 
-fn front(text: &[u8], length: u64) -> &[u8] {
-    let end = length as usize;
-    if end < text.len() {
-        return &text[0..end];
-    }
-    text
-}
-
-// Writes line i, and answers whether there was one.
-fn write_line(rt: &HostRuntime, decision: Decision, stream: &[u8], i: u64) -> io::Result<bool> {
-    let mut space = [0u8; 4096];
-    let out: &mut [u8] = &mut space;
-    match reporting::line(decision, stream, i, out) {
-        LineAnswer::Line(length) => {
-            rt.stdout().write_all(front(out, length))?;
-            Ok(true)
-        }
-        LineAnswer::End => Ok(false),
-        LineAnswer::Refused(_) => Ok(false),
-    }
-}
-
+// A line past the last, or one that there is no room for, is not written: nothing comes after it.
 fn write_lines(rt: &HostRuntime, decision: Decision, stream: &[u8]) -> io::Result<()> {
+    let mut out = [0u8; 4096];
     for i in 0..u64::MAX {
-        if !write_line(rt, decision, stream, i)? {
+        let Ok(Some(length)) = reporting::line(decision, stream, i, &mut out) else {
             return Ok(());
-        }
+        };
+        let line = out.get(..length as usize).unwrap_or(&out);
+        rt.stdout().write_all(line)?;
     }
     Ok(())
 }
 
 fn main(rt: HostRuntime) -> io::Result<()> {
-    let mut pair_space = [0u32; 4096];
-    let pairs: &mut [u32] = &mut pair_space;
-    let mut stream_space = [0u8; 16384];
-    let stream: &mut [u8] = &mut stream_space;
-    let progress = read_text(&rt, pairs)?;
-    let decision = reporting::decide(progress, pairs, stream);
-    write_lines(&rt, decision, stream)
+    let mut pairs = [0u32; 4096];
+    let mut stream = [0u8; 16384];
+    let progress = read_text(&rt, &mut pairs)?;
+    let decision = reporting::decide(progress, &pairs, &mut stream);
+    write_lines(&rt, decision, &stream)
 }

@@ -8,6 +8,7 @@ use native.Mathlib.Omega.{arith}
 use lib.Dec.{ltb}
 use lib.ListN.{length, take, drop}
 use borrow.Author.Tests.{lt-ltb, le-ltb}
+use Rattle.std.specs.Prelude.{Ok, Err}
 use Rattle.laws.specs.Choose.{choose}
 use Rattle.laws.proofs.Orders.{lt_or_le}
 use Rattle.laws.proofs.Truths.{true_or_false}
@@ -26,34 +27,29 @@ use Rattle.practice.specs.Practice.{pair_book}
 use Rattle.streams.specs.Codes.{pack}
 use Rattle.streams.specs.Written.{pairs_codes, pairs_bits}
 use Rattle.streams.specs.Calls.{write_pairs_of, pairs_written, words_into}
-use Rattle.compression.proofs.WrittenCalls.{base_bits_is}
 use Rattle.reporting.specs.Lines.{decimal, line, lg_name, pairs_name}
 use Rattle.reporting.specs.Asked.{Asked, asked, unasked, no_more}
 use Rattle.reporting.specs.Report.{flavor_name, offset_name, base_bits_name, bits_name, words_name, flavor_word, head_lines, word_line, word_lines, report_lines, refused_lines, lines_of, answered}
-use Rattle.reporting.specs.Machine.{done}
-use Rattle.reporting.specs.Calls.{told_decision, Decided, decided_as, written_of, read_decided, decide_of, Said, says, ended, nth, report_head, word_said, report_said, line_of}
-use Rattle.reporting.specs.declared.Progress.{Progress}
-use Rattle.reporting.specs.declared.Progress.TheVariants as progress
+use Rattle.reporting.specs.Machine.{Progress, done}
+use Rattle.reporting.specs.Calls.{Decision, told_decision, Decided, decided_as, written_of, read_decided, decide_of, Said, says, ended, nth, report_head, word_said, report_said, line_of}
 use Rattle.reporting.specs.declared.Report.{Report}
-use Rattle.reporting.specs.declared.Decision.{Decision}
-use Rattle.reporting.specs.declared.Decision.TheVariants as decision
-use Rattle.reporting.proofs.Numbered.{not_refused, not_stopped, write_told}
+use Rattle.reporting.proofs.Numbered.{not_refused, not_stopped, base_bits_is, write_told}
 use Rattle.reporting.proofs.Listed.{nth_front, nth_back, nth_words, word_same}
 use Rattle.reporting.proofs.Resuming.{field_rest, none_rest}
 use Rattle.reporting.proofs.Resumed.{with_pairs, line_then, resumed, resumed_open, resumed_done, wrong_line}
 
 -- a decision that refuses writes the refusal's line
-told_nth : (d : Decision) (why : Refusal) (stream : List ℕ) (i : ℕ) → told_decision d ≡ told why → line_of d stream i ≡ nth (refused_lines (numbers_in (told why)).0) i
-told_nth (decision.Written r) why stream i e = absurd (never_accepted why _ e)
-told_nth (decision.Refused other) why stream i e = ap (λ (o : Outcome). nth (refused_lines (numbers_in o).0) i) e
+told_nth : (d : Decision) (why : Refusal) (stream : List ℕ) (i : ℕ) → told_decision d ≡ told why → line_of d stream i ≡ nth (refused_lines (numbers_in (told why)).number) i
+told_nth (Ok r) why stream i e = absurd (never_accepted why _ e)
+told_nth (Err other) why stream i e = ap (λ (o : Outcome). nth (refused_lines (numbers_in o).number) i) e
 
 refused_nth : (d : Decision) (number place : ℕ) (stream : List ℕ) (i : ℕ) → told_decision d ≡ refused number place → line_of d stream i ≡ nth (refused_lines number) i
-refused_nth (decision.Written r) number place stream i e = absurd (not_refused _ number place e)
-refused_nth (decision.Refused why) number place stream i e = ap (λ (o : Outcome). nth (refused_lines (numbers_in o).0) i) e
+refused_nth (Ok r) number place stream i e = absurd (not_refused _ number place e)
+refused_nth (Err why) number place stream i e = ap (λ (o : Outcome). nth (refused_lines (numbers_in o).number) i) e
 
 stopped_nth : (d : Decision) (number place bit : ℕ) (stream : List ℕ) (i : ℕ) → told_decision d ≡ stopped number place bit → line_of d stream i ≡ nth (refused_lines number) i
-stopped_nth (decision.Written r) number place bit stream i e = absurd (not_stopped _ number place bit e)
-stopped_nth (decision.Refused why) number place bit stream i e = ap (λ (o : Outcome). nth (refused_lines (numbers_in o).0) i) e
+stopped_nth (Ok r) number place bit stream i e = absurd (not_stopped _ number place bit e)
+stopped_nth (Err why) number place bit stream i e = ap (λ (o : Outcome). nth (refused_lines (numbers_in o).number) i) e
 
 -- the writer's refusal, the offset's, or what comes of both
 chosen_lines : (d : Decision) (stream : List ℕ) (i : ℕ) (writer offset more : Outcome) (lines : List (List ℕ)) → told_decision d ≡ and_then writer (and_then offset more)
@@ -75,7 +71,7 @@ module _ (lg : ℕ) (pairs stream : List ℕ) where
   values = lg ∷ length pairs ∷ flavor_number (flavor_at (2 ^ lg) (length pairs)) ∷ offset_at (2 ^ lg) (length pairs) ∷ base_bits_at (2 ^ lg) (length pairs) ∷ bits ∷ words_for bits ∷ []
 
   -- a report whose numbers are these
-  module _ (r : Report) (after : List ℕ) (told' : accepted (r.lg ∷ r.count ∷ flavor_number r.flavor ∷ r.offset ∷ r.base ∷ r.bits.0 ∷ r.words.0 ∷ []) ≡ accepted values)
+  module _ (r : Report) (after : List ℕ) (told' : accepted (r.lg ∷ r.count ∷ flavor_number r.flavor ∷ r.offset ∷ r.base ∷ r.length.bits.0 ∷ r.length.words.0 ∷ []) ≡ accepted values)
       (wrote : after ≡ words_into (pairs_codes pair_book (2 ^ lg) pairs) bits stream) (i : ℕ) where
     head_same : report_head r ≡ head_lines lg (length pairs) bits
     unfolding report_head head_lines
@@ -86,21 +82,21 @@ module _ (lg : ℕ) (pairs stream : List ℕ) where
         let c : r.flavor ≡ flavor_at (2 ^ lg) (length pairs) = flavor_number_once _ _ n in
         let d : r.offset ≡ offset_at (2 ^ lg) (length pairs) = cc in
         let e : r.base ≡ base_bits_at (2 ^ lg) (length pairs) = cc in
-        let f : r.bits.0 ≡ bits = cc in
-        let g : r.words.0 ≡ words_for bits = cc in
+        let f : r.length.bits.0 ≡ bits = cc in
+        let g : r.length.words.0 ≡ words_for bits = cc in
         ap₂ (λ (x y : List (List ℕ)). x ++ y)
         (ap₂ (λ (x y : ℕ). line lg_name (decimal x) ∷ line pairs_name (decimal y) ∷ []) a b)
         (ap₂ (λ (x y : List (List ℕ)). x ++ y)
         (ap₂ (λ (x : Flavor) (y : ℕ). line flavor_name (flavor_word x) ∷ line offset_name (decimal y) ∷ []) c d)
         (ap₂ (λ (x : List (List ℕ)) (y : ℕ). x ++ (line words_name (decimal y) ∷ [])) (ap₂ (λ (x y : ℕ). line base_bits_name (decimal x) ∷ line bits_name (decimal y) ∷ []) e f) g))
 
-    words_same : r.words.0 ≡ words_for bits
+    words_same : r.length.words.0 ≡ words_for bits
     words_same = cc
 
     in_head : i < 7 → report_said r after i ≡ nth (report_lines lg pairs) i
     unfolding report_said report_lines head_lines
     in_head l =
-        ap (λ (t : Bool). choose t (nth (report_head r) i) (choose (ltb (i - 7) r.words.0) (word_said after (i - 7)) ended)) (lt-ltb i 7 l)
+        ap (λ (t : Bool). choose t (nth (report_head r) i) (choose (ltb (i - 7) r.length.words.0) (word_said after (i - 7)) ended)) (lt-ltb i 7 l)
         ∙ ap (λ (lines : List (List ℕ)). nth lines i) head_same
         ∙ sym (nth_front (head_lines lg (length pairs) bits) (word_lines codes 0 (words_for bits)) i l)
 
@@ -116,7 +112,7 @@ module _ (lg : ℕ) (pairs stream : List ℕ) where
         ap (λ (t : Bool). choose t (word_said after k) ended) (le-ltb k (words_for bits) g)
         ∙ sym (ap (λ (t : Bool). choose t (says (word_line codes k)) ended) (le-ltb k (words_for bits) g)))
         (lt_or_le k (words_for bits)) in
-        ap (λ (t : Bool). choose t (nth (report_head r) i) (choose (ltb (i - 7) r.words.0) (word_said after (i - 7)) ended)) (le-ltb i 7 h)
+        ap (λ (t : Bool). choose t (nth (report_head r) i) (choose (ltb (i - 7) r.length.words.0) (word_said after (i - 7)) ended)) (le-ltb i 7 h)
         ∙ ap (λ (w : ℕ). choose (ltb (i - 7) w) (word_said after (i - 7)) ended) words_same
         ∙ both
         ∙ sym (ap (λ (j : ℕ). choose (ltb k (words_for bits)) (says (word_line codes j)) ended) zero_more)
@@ -128,8 +124,8 @@ module _ (lg : ℕ) (pairs stream : List ℕ) where
 
   report_lines_is : (d : Decision) (after : List ℕ) → told_decision d ≡ accepted values → after ≡ words_into (pairs_codes pair_book (2 ^ lg) pairs) bits stream
       → (i : ℕ) → line_of d after i ≡ nth (report_lines lg pairs) i
-  report_lines_is (decision.Written r) after e wrote i = report_nth r after e wrote i
-  report_lines_is (decision.Refused why) after e wrote i = absurd (never_accepted why values (sym e))
+  report_lines_is (Ok r) after e wrote i = report_nth r after e wrote i
+  report_lines_is (Err why) after e wrote i = absurd (never_accepted why values (sym e))
 
   -- the lines of a list that the writer took or refused
   pub written_lines : (d : Decision) (after : List ℕ) → decided_as (told_decision d) after ≡ written_of lg pairs stream → (i : ℕ)
@@ -153,8 +149,8 @@ module _ (lg : ℕ) (pairs stream : List ℕ) where
 pub whole_lines : (p : Progress) (pairs stream : List ℕ) (d : Decision) (after : List ℕ) → decided_as (told_decision d) after ≡ decide_of p pairs stream
     → (i : ℕ) → line_of d after i ≡ nth (answered stream (resumed p pairs [])) i
 unfolding read_decided
-whole_lines (progress.Refused why) pairs stream d after e i = told_nth d why after i (ap (λ (x : Decided). x.outcome) e)
-whole_lines (progress.Reading r) pairs stream d after e i =
+whole_lines (Err why) pairs stream d after e i = told_nth d why after i (ap (λ (x : Decided). x.outcome) e)
+whole_lines (Ok r) pairs stream d after e i =
     let room = ltb (length pairs) r.count in
     let inside : Decided = choose (done r) (written_of r.lg (take r.count pairs) stream) (decided_as (refused 15 0) stream) in
     ⊎_elim

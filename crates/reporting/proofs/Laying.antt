@@ -15,7 +15,7 @@ use Rattle.laws.specs.Choose.{choose}
 use Rattle.laws.proofs.Orders.{lt_or_le}
 use Rattle.refusals.specs.declared.Refusal.TheVariants.{NoRoom}
 use Rattle.reporting.specs.Calls.{Laid, laid, line_into}
-use Rattle.reporting.specs.declared.LineAnswer.TheVariants.{Line, Refused}
+use Rattle.std.specs.Prelude.{Some, Ok, Err}
 use Rattle.reporting.specs.Lines.{newline, equals, digits_within, decimal, line}
 
 pub paste_turn : (d s out : List ℕ) (at i : ℕ) → at + i < length d → i < length s → out ≡ paste d at s i → set out (at + i) (get_or s i 0) ≡ paste d at s (i + 1)
@@ -84,14 +84,14 @@ line_length name said =
     omega (arith, length-append (name ++ (equals ∷ []) ++ said) (newline ∷ []), length-append (name ++ (equals ∷ [])) said, length-append name (equals ∷ []))
 
 module _ (name said out : List ℕ) where
-  pub no_room : length out < length name + length said + 2 → laid (Refused NoRoom) out ≡ line_into (line name said) out
+  pub no_room : length out < length name + length said + 2 → laid (Err NoRoom) out ≡ line_into (line name said) out
   no_room l = simp (lt-ltb (length out) (length (line name said)) (omega (arith, line_length name said)))
 
   pub room : (r : ℕ) (o : List ℕ) → length name + length said + 2 ≤ length out → (r ≡ length (line name said)) × (o ≡ line name said ++ drop (length (line name said)) out)
-      → laid (Line r) o ≡ line_into (line name said) out
+      → laid (Ok (Some r)) o ≡ line_into (line name said) out
   room r o l e =
-      ap₂ (λ (n : ℕ) (x : List ℕ). laid (Line n) x) e.0 e.1
-      ∙ sym (ap (λ (t : Bool). choose t (laid (Refused NoRoom) out) (laid (Line (length (line name said))) (line name said ++ drop (length (line name said)) out)))
+      ap₂ (λ (n : ℕ) (x : List ℕ). laid (Ok (Some n)) x) e.0 e.1
+      ∙ sym (ap (λ (t : Bool). choose t (laid (Err NoRoom) out) (laid (Ok (Some (length (line name said)))) (line name said ++ drop (length (line name said)) out)))
       (le-ltb (length out) (length (line name said)) (omega (arith, line_length name said))))
 
 -- what is said is a decimal that was printed

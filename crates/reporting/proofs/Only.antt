@@ -2,17 +2,14 @@
 use mathlib.Core.Path.{◌≡◌, sym, ap, ap₂, ◌∙◌}
 use mathlib.Core.List.{List}
 use Prim.Native.Nat.{ℕ}
+use Rattle.std.specs.Prelude.{Ok, Err}
 use Rattle.refusals.proofs.Only.{told_once, never_accepted}
 use Rattle.numbers.specs.Told.{flavor_number}
 use Rattle.numbers.specs.declared.Flavor.{Flavor}
 use Rattle.numbers.proofs.Only.{flavor_number_once}
-use Rattle.reporting.specs.Machine.{Held, held, taken_of, begun}
-use Rattle.reporting.specs.Calls.{told_decision, Decided, decided_as, decide_of, Laid, laid, said_into, line_of}
-use Rattle.reporting.specs.declared.Progress.{Progress}
+use Rattle.reporting.specs.Machine.{Progress, Held, held, taken_of, begun}
+use Rattle.reporting.specs.Calls.{Decision, LineAnswer, told_decision, Decided, decided_as, decide_of, Laid, laid, said_into, line_of}
 use Rattle.reporting.specs.declared.Report.{Report}
-use Rattle.reporting.specs.declared.Decision.{Decision}
-use Rattle.reporting.specs.declared.Decision.TheVariants as decision
-use Rattle.reporting.specs.declared.LineAnswer.{LineAnswer}
 
 pub one_begin : (a b : Progress) → a ≡ begun → b ≡ begun → a ≡ b
 one_begin a b p q = p ∙ sym q
@@ -23,24 +20,24 @@ one_take p part pairs o u a b x y = let e = x ∙ sym y in (ap (λ (h : Held). h
 -- a report by its numbers
 abbrev made : ℕ → ℕ → Flavor → ℕ → ℕ → ℕ → ℕ → Report
 made lg count flavor offset base bits words =
-    record { lg = lg; count = count; flavor = flavor; offset = offset; base = base; bits = record { 0 = bits }; words = record { 0 = words } }
+    record { lg = lg; count = count; flavor = flavor; offset = offset; base = base; length = record { bits = record { 0 = bits }; words = record { 0 = words } } }
 
-report_once : (r s : Report) → r.lg ≡ s.lg → r.count ≡ s.count → r.flavor ≡ s.flavor → r.offset ≡ s.offset → r.base ≡ s.base → r.bits.0 ≡ s.bits.0
-    → r.words.0 ≡ s.words.0 → r ≡ s
+report_once : (r s : Report) → r.lg ≡ s.lg → r.count ≡ s.count → r.flavor ≡ s.flavor → r.offset ≡ s.offset → r.base ≡ s.base → r.length.bits.0 ≡ s.length.bits.0
+    → r.length.words.0 ≡ s.length.words.0 → r ≡ s
 report_once r s a b c d e f g =
-    ap₂ (λ (x y : ℕ). made x y r.flavor r.offset r.base r.bits.0 r.words.0) a b
-    ∙ ap₂ (λ (x : Flavor) (y : ℕ). made s.lg s.count x y r.base r.bits.0 r.words.0) c d
-    ∙ ap₂ (λ (x y : ℕ). made s.lg s.count s.flavor s.offset x y r.words.0) e f
-    ∙ ap (λ (x : ℕ). made s.lg s.count s.flavor s.offset s.base s.bits.0 x) g
+    ap₂ (λ (x y : ℕ). made x y r.flavor r.offset r.base r.length.bits.0 r.length.words.0) a b
+    ∙ ap₂ (λ (x : Flavor) (y : ℕ). made s.lg s.count x y r.base r.length.bits.0 r.length.words.0) c d
+    ∙ ap₂ (λ (x y : ℕ). made s.lg s.count s.flavor s.offset x y r.length.words.0) e f
+    ∙ ap (λ (x : ℕ). made s.lg s.count s.flavor s.offset s.base s.length.bits.0 x) g
 
 -- what a decision is told as decides it
 pub decision_once : (a b : Decision) → told_decision a ≡ told_decision b → a ≡ b
-decision_once (decision.Written r) (decision.Written s) e =
+decision_once (Ok r) (Ok s) e =
     let n : flavor_number r.flavor ≡ flavor_number s.flavor = cc in
-    ap decision.Written (report_once r s (cc) (cc) (flavor_number_once _ _ n) (cc) (cc) (cc) (cc))
-decision_once (decision.Written r) (decision.Refused why) e = absurd (never_accepted why _ e)
-decision_once (decision.Refused why) (decision.Written s) e = absurd (never_accepted why _ (sym e))
-decision_once (decision.Refused why) (decision.Refused other) e = ap decision.Refused (told_once why other e)
+    ap Ok (report_once r s (cc) (cc) (flavor_number_once _ _ n) (cc) (cc) (cc) (cc))
+decision_once (Ok r) (Err why) e = absurd (never_accepted why _ e)
+decision_once (Err why) (Ok s) e = absurd (never_accepted why _ (sym e))
+decision_once (Err why) (Err other) e = ap Err (told_once why other e)
 
 pub one_decision : (p : Progress) (pairs stream o u : List ℕ) (a b : Decision) → decided_as (told_decision a) o ≡ decide_of p pairs stream
     → decided_as (told_decision b) u ≡ decide_of p pairs stream → (a ≡ b) × (o ≡ u)

@@ -9,6 +9,7 @@ use lib.Dec.{ltb, leb, eqb}
 use lib.ListN.{length, take, set, length-set}
 use lib.Seq.{take-suc-set}
 use borrow.Author.Tests.{lt-ltb, le-ltb, le-leb, lt-leb, ne_eqb, ltb-false}
+use Rattle.std.specs.Prelude.{Option, Some, None, Ok, Err}
 use Rattle.laws.specs.Choose.{choose}
 use Rattle.laws.proofs.Orders.{lt_or_le}
 use Rattle.laws.proofs.Truths.{true_or_false}
@@ -17,12 +18,10 @@ use Rattle.refusals.specs.Told.{told}
 use Rattle.refusals.specs.declared.Refusal.TheVariants.{LgOutside, NoRoom, NotLawful}
 use Rattle.reporting.specs.Lines.{newline, equals, lg_name, pairs_name, pair_name}
 use Rattle.reporting.specs.Asked.{Found, found, wrong, decimal_to, after, number_line, indexed, pair_line, Asked, asked, unasked, with_pair, no_more, pair_then, pair_lines, count_then, lg_then, asked_by}
-use Rattle.reporting.specs.Machine.{none, name_of, after_name, move_of, done, Held, held, next_line, lg_read, count_read, line_read, moved, reading_step, step_of, taken_of, begun}
+use Rattle.reporting.specs.Machine.{Progress, none, name_of, after_name, move_of, done, Held, held, next_line, lg_read, count_read, line_read, moved, reading_step, step_of, taken_of, begun}
 use Rattle.reporting.specs.declared.Field.{Field}
 use Rattle.reporting.specs.declared.Field.TheVariants as field
 use Rattle.reporting.specs.declared.Reading.{Reading}
-use Rattle.reporting.specs.declared.Progress.{Progress}
-use Rattle.reporting.specs.declared.Progress.TheVariants as progress
 use Rattle.reporting.specs.declared.matching.Move.{Move}
 use Rattle.reporting.specs.declared.matching.Move.TheVariants as move
 use Rattle.reporting.proofs.Stepping.{undone}
@@ -41,10 +40,10 @@ line_then pairs r f =
 
 -- what a text asks for, from a byte on, where the machine stands so
 abbrev pub resumed : Progress → List ℕ → List ℕ → Asked
-resumed (progress.Reading r) pairs text =
+resumed (Ok r) pairs text =
     choose (ltb (length pairs) r.count) (unasked 5)
     (choose (done r) (with_pairs (take r.count pairs) (no_more r.lg text)) (line_then pairs r (field_rest r.lines r.field text)))
-resumed (progress.Refused why) pairs text = unasked (numbers_in (told why)).0
+resumed (Err why) pairs text = unasked (numbers_in (told why)).number
 
 with_none : (a : Asked) → with_pairs [] a ≡ a
 with_none (asked lg pairs) = refl
@@ -56,14 +55,14 @@ with_pair_is front n (unasked number) = refl
 
 -- inside the text
 pub resumed_open : (r : Reading) (pairs text : List ℕ) → r.count ≤ length pairs → done r ≡ false
-    → resumed (progress.Reading r) pairs text ≡ line_then pairs r (field_rest r.lines r.field text)
+    → resumed (Ok r) pairs text ≡ line_then pairs r (field_rest r.lines r.field text)
 resumed_open r pairs text fits undone' =
     ap (λ (t : Bool). choose t (unasked 5) (choose (done r) (with_pairs (take r.count pairs) (no_more r.lg text)) (line_then pairs r (field_rest r.lines r.field text))))
     (le-ltb (length pairs) r.count fits)
     ∙ ap (λ (t : Bool). choose t (with_pairs (take r.count pairs) (no_more r.lg text)) (line_then pairs r (field_rest r.lines r.field text))) undone'
 
 pub resumed_done : (r : Reading) (pairs text : List ℕ) → r.count ≤ length pairs → done r ≡ true
-    → resumed (progress.Reading r) pairs text ≡ with_pairs (take r.count pairs) (no_more r.lg text)
+    → resumed (Ok r) pairs text ≡ with_pairs (take r.count pairs) (no_more r.lg text)
 resumed_done r pairs text fits done' =
     ap (λ (t : Bool). choose t (unasked 5) (choose (done r) (with_pairs (take r.count pairs) (no_more r.lg text)) (line_then pairs r (field_rest r.lines r.field text))))
     (le-ltb (length pairs) r.count fits)
@@ -106,7 +105,7 @@ module _ (lg count j : ℕ) (pairs text : List ℕ) (fits : count ≤ length pai
   two : leb 2 (suc (suc j)) ≡ true
   two = le-leb 2 (suc (suc j)) (omega arith)
 
-  at_last : count ≡ j → resumed (progress.Reading (record { lines = suc (suc j); lg = lg; count = count; field = field.Name 0 })) pairs text
+  at_last : count ≡ j → resumed (Ok (record { lines = suc (suc j); lg = lg; count = count; field = field.Name 0 })) pairs text
       ≡ with_pairs (take j pairs) (pair_lines lg (count - j) j text)
   unfolding pair_lines
   at_last e =
@@ -117,7 +116,7 @@ module _ (lg count j : ℕ) (pairs text : List ℕ) (fits : count ≤ length pai
       ∙ ap (λ (n : ℕ). with_pairs (take n pairs) (no_more lg text)) e
       ∙ sym (ap (λ (n : ℕ). with_pairs (take j pairs) (pair_lines lg n j text)) none_left)
 
-  before_last : j < count → resumed (progress.Reading (record { lines = suc (suc j); lg = lg; count = count; field = field.Name 0 })) pairs text
+  before_last : j < count → resumed (Ok (record { lines = suc (suc j); lg = lg; count = count; field = field.Name 0 })) pairs text
       ≡ with_pairs (take j pairs) (pair_lines lg (count - j) j text)
   unfolding pair_lines
   before_last l =
@@ -135,10 +134,10 @@ module _ (lg count j : ℕ) (pairs text : List ℕ) (fits : count ≤ length pai
       ∙ sym (ap (λ (n : ℕ). with_pairs (take j pairs) (pair_lines lg n j text)) more_left)
 
   -- at the start of a pair's line, or past the last
-  pub at_pair : (line : ℕ) → line ≡ suc (suc j) → j ≤ count → resumed (progress.Reading (record { lines = line; lg = lg; count = count; field = field.Name 0 })) pairs text
+  pub at_pair : (line : ℕ) → line ≡ suc (suc j) → j ≤ count → resumed (Ok (record { lines = line; lg = lg; count = count; field = field.Name 0 })) pairs text
       ≡ with_pairs (take j pairs) (pair_lines lg (count - j) j text)
   at_pair line e within =
-      ap (λ (n : ℕ). resumed (progress.Reading (record { lines = n; lg = lg; count = count; field = field.Name 0 })) pairs text) e
+      ap (λ (n : ℕ). resumed (Ok (record { lines = n; lg = lg; count = count; field = field.Name 0 })) pairs text) e
       ∙ ⊎_elim (λ (l : j < count). before_last l) (λ (h : count ≤ j). at_last (omega arith)) (lt_or_le j count)
 
 or_last : (a b : Bool) → (a || b) ≡ false → b ≡ false
@@ -147,7 +146,7 @@ or_last false b e = e
 
 -- lg_k's line is whole
 lg_ended : (t : Bool) (lg count n : ℕ) (f : Field) (pairs text : List ℕ) → count ≤ length pairs
-    → resumed (choose t (progress.Refused LgOutside) (next_line (record { lines = 0; lg = lg; count = count; field = f }) n count)) pairs text
+    → resumed (choose t (Err LgOutside) (next_line (record { lines = 0; lg = lg; count = count; field = f }) n count)) pairs text
     ≡ choose t (unasked 1) (count_then (length pairs) n (number_line pairs_name text))
 lg_ended true lg count n f pairs text fits = refl
 lg_ended false lg count n f pairs text fits = resumed_open (record { lines = 1; lg = n; count = count; field = field.Name 0 }) pairs text fits refl
@@ -159,12 +158,12 @@ count_ended lg count n f pairs text =
     let r : Reading = record { lines = 1; lg = lg; count = count; field = f } in
     ⊎_elim
     (λ (e : (ltb 4096 n || ltb (length pairs) n) ≡ true).
-    ap (λ (t : Bool). resumed (choose t (progress.Refused NoRoom) (next_line r lg n)) pairs text) e
+    ap (λ (t : Bool). resumed (choose t (Err NoRoom) (next_line r lg n)) pairs text) e
     ∙ sym (ap (λ (t : Bool). choose t (unasked 5) (pair_lines lg n 0 text)) e))
     (λ (e : (ltb 4096 n || ltb (length pairs) n) ≡ false).
     let fits : n ≤ length pairs = ltb-false (length pairs) n (or_last (ltb 4096 n) (ltb (length pairs) n) e) in
     let whole : n - 0 ≡ n = omega arith in
-    ap (λ (t : Bool). resumed (choose t (progress.Refused NoRoom) (next_line r lg n)) pairs text) e
+    ap (λ (t : Bool). resumed (choose t (Err NoRoom) (next_line r lg n)) pairs text) e
     ∙ at_pair lg n 0 pairs text fits 2 refl (omega arith)
     ∙ with_none (pair_lines lg (n - 0) 0 text)
     ∙ ap (λ (m : ℕ). pair_lines lg m 0 text) whole
@@ -221,29 +220,29 @@ line_ended (suc (suc i)) lg count n f pairs text fits e =
     pair_line_ended i lg count n f pairs text fits (omega arith)
 
 -- where a byte leaves the machine
-move_ended : (r : Reading) (m : Move) (pairs text : List ℕ) → r.count ≤ length pairs → done r ≡ false
+move_ended : (r : Reading) (m : Option Move) (pairs text : List ℕ) → r.count ≤ length pairs → done r ≡ false
     → resumed (moved r pairs m).progress (moved r pairs m).pairs text ≡ line_then pairs r (after_move r.lines m text)
-move_ended r (move.To f) pairs text fits e = resumed_open (record { lines = r.lines; lg = r.lg; count = r.count; field = f }) pairs text fits e
-move_ended r (move.Ends n) pairs text fits e = line_ended r.lines r.lg r.count n r.field pairs text fits e
-move_ended r move.Wrong pairs text fits e = sym (wrong_line pairs r)
+move_ended r (Some (move.To f)) pairs text fits e = resumed_open (record { lines = r.lines; lg = r.lg; count = r.count; field = f }) pairs text fits e
+move_ended r (Some (move.Ends n)) pairs text fits e = line_ended r.lines r.lg r.count n r.field pairs text fits e
+move_ended r None pairs text fits e = sym (wrong_line pairs r)
 
 reading_step_is : (r : Reading) (byte : ℕ) (pairs text : List ℕ)
-    → resumed (reading_step r byte pairs).progress (reading_step r byte pairs).pairs text ≡ resumed (progress.Reading r) pairs (byte ∷ text)
+    → resumed (reading_step r byte pairs).progress (reading_step r byte pairs).pairs text ≡ resumed (Ok r) pairs (byte ∷ text)
 unfolding reading_step
 reading_step_is r byte pairs text =
     let after' : Held → Asked = λ (h : Held). resumed h.progress h.pairs text in
     let m = move_of r.lines r.field byte in
-    let inside : Held = choose (done r) (held (progress.Refused NotLawful) pairs) (moved r pairs m) in
+    let inside : Held = choose (done r) (held (Err NotLawful) pairs) (moved r pairs m) in
     ⊎_elim
     (λ (l : length pairs < r.count).
-    ap (λ (t : Bool). after' (choose t (held (progress.Refused NoRoom) pairs) inside)) (lt-ltb (length pairs) r.count l)
+    ap (λ (t : Bool). after' (choose t (held (Err NoRoom) pairs) inside)) (lt-ltb (length pairs) r.count l)
     ∙ sym (ap (λ (t : Bool). choose t (unasked 5) (choose (done r) (with_pairs (take r.count pairs) (no_more r.lg (byte ∷ text))) (line_then pairs r (field_rest r.lines r.field (byte ∷ text))))) (lt-ltb (length pairs) r.count l)))
     (λ (fits : r.count ≤ length pairs).
-    ap (λ (t : Bool). after' (choose t (held (progress.Refused NoRoom) pairs) inside)) (le-ltb (length pairs) r.count fits)
+    ap (λ (t : Bool). after' (choose t (held (Err NoRoom) pairs) inside)) (le-ltb (length pairs) r.count fits)
     ∙ ⊎_elim
-    (λ (e : done r ≡ true). ap (λ (t : Bool). after' (choose t (held (progress.Refused NotLawful) pairs) (moved r pairs m))) e ∙ sym (resumed_done r pairs (byte ∷ text) fits e))
+    (λ (e : done r ≡ true). ap (λ (t : Bool). after' (choose t (held (Err NotLawful) pairs) (moved r pairs m))) e ∙ sym (resumed_done r pairs (byte ∷ text) fits e))
     (λ (e : done r ≡ false).
-    ap (λ (t : Bool). after' (choose t (held (progress.Refused NotLawful) pairs) (moved r pairs m))) e
+    ap (λ (t : Bool). after' (choose t (held (Err NotLawful) pairs) (moved r pairs m))) e
     ∙ move_ended r m pairs text fits e
     ∙ ap (line_then pairs r) (move_rest r.lines r.field byte text)
     ∙ sym (resumed_open r pairs (byte ∷ text) fits e))
@@ -253,8 +252,8 @@ reading_step_is r byte pairs text =
 -- one byte more changes nothing of what is asked for
 pub step_resumed : (p : Progress) (byte : ℕ) (pairs text : List ℕ)
     → resumed (step_of p byte pairs).progress (step_of p byte pairs).pairs text ≡ resumed p pairs (byte ∷ text)
-step_resumed (progress.Reading r) byte pairs text = reading_step_is r byte pairs text
-step_resumed (progress.Refused why) byte pairs text = refl
+step_resumed (Ok r) byte pairs text = reading_step_is r byte pairs text
+step_resumed (Err why) byte pairs text = refl
 
 -- a part changes nothing of it
 pub part_resumed : (p : Progress) (part pairs text : List ℕ)

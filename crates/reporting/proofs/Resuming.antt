@@ -10,6 +10,7 @@ use lib.Dec.{ltb, leb, eqb}
 use lib.ListN.{length, get_or, drop, drop_of_length-le}
 use lib.Seq.{drop-cons}
 use borrow.Author.Tests.{lt-ltb, le-ltb, eq-eqb, ne_eqb}
+use Rattle.std.specs.Prelude.{Option, Some, None}
 use Rattle.laws.specs.Choose.{choose}
 use Rattle.laws.proofs.Orders.{lt_or_le, same_or_not}
 use Rattle.reporting.specs.Lines.{newline, equals}
@@ -19,8 +20,7 @@ use Rattle.reporting.specs.declared.Field.{Field}
 use Rattle.reporting.specs.declared.Field.TheVariants as field
 use Rattle.reporting.specs.declared.matching.Move.{Move}
 use Rattle.reporting.specs.declared.matching.Move.TheVariants as move
-use Rattle.reporting.specs.declared.matching.Longer.TheVariants as longer
-use Rattle.reporting.specs.declared.matching.Letter.TheVariants.{Last, Inside, Wrong}
+use Rattle.reporting.specs.declared.matching.Letter.TheVariants.{Last, Inside}
 
 -- an index that is not that of the line's pair
 abbrev pub indexed_at : ℕ → Found → Found
@@ -41,27 +41,27 @@ field_rest line (field.Name place) text = name_rest (name_of line) (digits_rest 
 field_rest line (field.Index d) text = digits_rest line (field.Index d) text
 field_rest line (field.Number d) text = digits_rest line (field.Number d) text
 
-abbrev pub after_move : ℕ → Move → List ℕ → Found
-after_move line (move.To f) text = field_rest line f text
-after_move line (move.Ends n) text = found n text
-after_move line move.Wrong text = wrong
+abbrev pub after_move : ℕ → Option Move → List ℕ → Found
+after_move line (Some (move.To f)) text = field_rest line f text
+after_move line (Some (move.Ends n)) text = found n text
+after_move line None text = wrong
 
 -- one byte more of a number, of an index, of a name
 number_rest : (line : ℕ) (a f : Bool) (n next : ℕ) (text : List ℕ)
-    → after_move line (choose a (move.Ends n) (digits_move field.Number (choose f (longer.Are (record { begun = true; sofar = next })) longer.No))) text
+    → after_move line (choose a (Some (move.Ends n)) (digits_move field.Number (choose f (Some (record { begun = true; sofar = next })) None))) text
     ≡ choose a (found n text) (choose f (digits_to newline true next text) wrong)
 number_rest line true f n next text = refl
 number_rest line false true n next text = refl
 number_rest line false false n next text = refl
 
-index_chosen : (line : ℕ) (c : Bool) (text : List ℕ) → after_move line (choose c (move.To (field.Number none)) move.Wrong) text ≡ choose c (decimal_to newline text) wrong
+index_chosen : (line : ℕ) (c : Bool) (text : List ℕ) → after_move line (choose c (Some (move.To (field.Number none))) None) text ≡ choose c (decimal_to newline text) wrong
 index_chosen line true text = refl
 index_chosen line false text = refl
 
 index_rest : (line : ℕ) (a f : Bool) (n next : ℕ) (text : List ℕ)
     → after_move line
-    (choose a (choose (leb 2 line && eqb n (line - 2)) (move.To (field.Number none)) move.Wrong)
-    (digits_move field.Index (choose f (longer.Are (record { begun = true; sofar = next })) longer.No))) text
+    (choose a (choose (leb 2 line && eqb n (line - 2)) (Some (move.To (field.Number none))) None)
+    (digits_move field.Index (choose f (Some (record { begun = true; sofar = next })) None))) text
     ≡ indexed_at line (choose a (found n text) (choose f (digits_to equals true next text) wrong))
 index_rest line true f n next text = index_chosen line (leb 2 line && eqb n (line - 2)) text
 index_rest line false true n next text = refl
@@ -75,25 +75,25 @@ after_name_rest line false text = refl
 module _ (line place byte : ℕ) (text : List ℕ) where
   -- the letter fits
   letter_rest : place < length (name_of line)
-      → after_move line (letter_move line (choose (eqb (place + 1) (length (name_of line))) Last (Inside (place + 1)))) text
+      → after_move line (letter_move line (choose (eqb (place + 1) (length (name_of line))) (Some Last) (Some (Inside (place + 1))))) text
       ≡ after (drop (suc place) (name_of line)) (digits_rest line (after_name line)) text
   unfolding after
   letter_rest l =
       ⊎_elim
       (λ (e : place + 1 ≡ length (name_of line)).
       let past : length (name_of line) ≤ suc place = omega arith in
-      ap (λ (t : Bool). after_move line (letter_move line (choose t Last (Inside (place + 1)))) text) (eq-eqb (place + 1) (length (name_of line)) e)
+      ap (λ (t : Bool). after_move line (letter_move line (choose t (Some Last) (Some (Inside (place + 1))))) text) (eq-eqb (place + 1) (length (name_of line)) e)
       ∙ after_name_rest line (ltb line 2) text
       ∙ sym (ap (λ (n : List ℕ). after n (digits_rest line (after_name line)) text) (drop_of_length-le (name_of line) past)))
       (λ (e : place + 1 ≡ length (name_of line) → ⊥).
       let inside : place + 1 < length (name_of line) = omega arith in
-      ap (λ (t : Bool). after_move line (letter_move line (choose t Last (Inside (place + 1)))) text) (ne_eqb (place + 1) (length (name_of line)) e)
+      ap (λ (t : Bool). after_move line (letter_move line (choose t (Some Last) (Some (Inside (place + 1))))) text) (ne_eqb (place + 1) (length (name_of line)) e)
       ∙ ap (λ (t : Bool). choose t (after (drop (place + 1) (name_of line)) (digits_rest line (after_name line)) text) wrong) (lt-ltb (place + 1) (length (name_of line)) inside)
       ∙ ap (λ (p : ℕ). after (drop p (name_of line)) (digits_rest line (after_name line)) text) (add-one place))
       (same_or_not (place + 1) (length (name_of line)))
 
   letter_chosen : place < length (name_of line) → (b : Bool)
-      → after_move line (letter_move line (choose b (choose (eqb (place + 1) (length (name_of line))) Last (Inside (place + 1))) Wrong)) text
+      → after_move line (letter_move line (choose b (choose (eqb (place + 1) (length (name_of line))) (Some Last) (Some (Inside (place + 1)))) None)) text
       ≡ choose b (after (drop (suc place) (name_of line)) (digits_rest line (after_name line)) text) wrong
   letter_chosen l true = letter_rest l
   letter_chosen l false = refl
@@ -103,12 +103,12 @@ module _ (line place byte : ℕ) (text : List ℕ) where
   name_rest_is =
       ⊎_elim
       (λ (l : place < length (name_of line)).
-      ap (λ (t : Bool). after_move line (letter_move line (choose (t && eqb byte (get_or (name_of line) place 0)) (choose (eqb (place + 1) (length (name_of line))) Last (Inside (place + 1))) Wrong)) text) (lt-ltb place (length (name_of line)) l)
+      ap (λ (t : Bool). after_move line (letter_move line (choose (t && eqb byte (get_or (name_of line) place 0)) (choose (eqb (place + 1) (length (name_of line))) (Some Last) (Some (Inside (place + 1)))) None)) text) (lt-ltb place (length (name_of line)) l)
       ∙ letter_chosen l (eqb byte (get_or (name_of line) place 0))
       ∙ sym (ap (λ (n : List ℕ). after n (digits_rest line (after_name line)) (byte ∷ text)) (drop-cons (name_of line) place 0 l))
       ∙ sym (ap (λ (t : Bool). choose t (after (drop place (name_of line)) (digits_rest line (after_name line)) (byte ∷ text)) wrong) (lt-ltb place (length (name_of line)) l)))
       (λ (h : length (name_of line) ≤ place).
-      ap (λ (t : Bool). after_move line (letter_move line (choose (t && eqb byte (get_or (name_of line) place 0)) (choose (eqb (place + 1) (length (name_of line))) Last (Inside (place + 1))) Wrong)) text) (le-ltb place (length (name_of line)) h)
+      ap (λ (t : Bool). after_move line (letter_move line (choose (t && eqb byte (get_or (name_of line) place 0)) (choose (eqb (place + 1) (length (name_of line))) (Some Last) (Some (Inside (place + 1)))) None)) text) (le-ltb place (length (name_of line)) h)
       ∙ sym (ap (λ (t : Bool). choose t (after (drop place (name_of line)) (digits_rest line (after_name line)) (byte ∷ text)) wrong) (le-ltb place (length (name_of line)) h)))
       (lt_or_le place (length (name_of line)))
 

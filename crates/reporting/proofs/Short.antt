@@ -6,6 +6,7 @@ use Prim.Native.Nat.{ℕ, zero, suc, ◌*◌, ◌^◌, ◌≤◌}
 use native.Mathlib.Omega.{arith}
 use lib.ListN.{length, drop, length-append}
 use borrow.Author.Tests.{le-ltb}
+use Rattle.std.specs.Prelude.{Some, None, Ok, Err}
 use Rattle.laws.specs.Choose.{choose}
 use Rattle.refusals.specs.Outcome.{Outcome, accepted, refused, stopped}
 use Rattle.refusals.specs.declared.Refusal.{Refusal}
@@ -17,9 +18,7 @@ use Rattle.streams.specs.Stream.{bits_at}
 use Rattle.reporting.specs.Lines.{decimal, line, lg_name, pairs_name}
 use Rattle.reporting.specs.Asked.{Asked, asked, unasked, asked_by}
 use Rattle.reporting.specs.Report.{flavor_name, offset_name, base_bits_name, bits_name, words_name, word_name, refused_name, flavor_word, head_lines, word_lines, report_lines, refused_lines, decided, lines_of, answered, report_of}
-use Rattle.reporting.specs.Calls.{nth, Laid, laid, said_into}
-use Rattle.reporting.specs.declared.LineAnswer.{LineAnswer}
-use Rattle.reporting.specs.declared.LineAnswer.TheVariants as answer
+use Rattle.reporting.specs.Calls.{LineAnswer, nth, Laid, laid, said_into}
 use Rattle.reporting.proofs.Laying.{short, line_length}
 
 data AllShort : List (List ℕ) → Type 0 where
@@ -66,17 +65,17 @@ answered_short stream (unasked number) = refusal_short number
 
 -- a line, or the end
 told_or_ended : {lines : List (List ℕ)} → AllShort lines → (i : ℕ) (out o : List ℕ) (a : LineAnswer) (why : Refusal) → 64 ≤ length out
-    → laid a o ≡ said_into (nth lines i) out → a ≡ answer.Refused why → ⊥
+    → laid a o ≡ said_into (nth lines i) out → a ≡ Err why → ⊥
 told_or_ended no_line i out o a why room e r =
-    let end : a ≡ answer.End = ap (λ (l : Laid). l.answer) e in let z : ◌≡◌ {A = ℕ} 0 1 = cc in omega arith
+    let end : a ≡ (Ok None) = ap (λ (l : Laid). l.answer) e in let z : ◌≡◌ {A = ℕ} 0 1 = cc in omega arith
 told_or_ended (one_more {text} l all) zero out o a why room e r =
-    let long : a ≡ answer.Line (length text) =
+    let long : a ≡ Ok (Some (length text)) =
     ap (λ (x : Laid). x.answer) e
-    ∙ ap (λ (t : Bool). (choose t (laid (answer.Refused NoRoom) out) (laid (answer.Line (length text)) (text ++ drop (length text) out))).answer) (le-ltb (length out) (length text) (omega arith)) in
+    ∙ ap (λ (t : Bool). (choose t (laid (Err NoRoom) out) (laid (Ok (Some (length text))) (text ++ drop (length text) out))).answer) (le-ltb (length out) (length text) (omega arith)) in
     let z : ◌≡◌ {A = ℕ} 0 1 = cc in omega arith
 told_or_ended (one_more l all) (suc i) out o a why room e r = told_or_ended all i out o a why room e r
 
 -- where the output has 64 bytes, no line of what is written of a text is refused
 pub never_refused : (room : ℕ) (stream text out o : List ℕ) (i : ℕ) (a : LineAnswer) (why : Refusal) → 64 ≤ length out
-    → laid a o ≡ said_into (nth (report_of room stream text) i) out → a ≡ answer.Refused why → ⊥
+    → laid a o ≡ said_into (nth (report_of room stream text) i) out → a ≡ Err why → ⊥
 never_refused room stream text out o i a why = told_or_ended (answered_short stream (asked_by room text)) i out o a why

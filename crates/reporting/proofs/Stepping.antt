@@ -9,8 +9,7 @@ use lib.Dec.{leb}
 use lib.ListN.{length, get_or, take, drop, length-take}
 use lib.Seq.{drop-cons}
 use borrow.Author.Tests.{leb-false, le-leb}
-use Rattle.reporting.specs.Machine.{Held, held, step_of, taken_of}
-use Rattle.reporting.specs.declared.Progress.{Progress}
+use Rattle.reporting.specs.Machine.{Progress, Held, held, step_of, taken_of}
 
 -- where the lines are not all read, the pair's place is below their number
 pub undone : (lines count : ℕ) → (leb 2 lines && leb count (lines - 2)) ≡ false → 2 ≤ lines → lines - 2 < count

@@ -5,11 +5,8 @@ use Prim.Native.Nat.{ℕ}
 use lib.ListN.{length}
 use Rattle.reporting.specs.Asked.{Asked}
 use Rattle.reporting.specs.Report.{answered, report_of}
-use Rattle.reporting.specs.Machine.{Held, held, taken_of, begun}
-use Rattle.reporting.specs.Calls.{told_decision, decided_as, decide_of, Said, nth, line_of, laid, said_into}
-use Rattle.reporting.specs.declared.LineAnswer.{LineAnswer}
-use Rattle.reporting.specs.declared.Progress.{Progress}
-use Rattle.reporting.specs.declared.Decision.{Decision}
+use Rattle.reporting.specs.Machine.{Progress, Held, held, taken_of, begun}
+use Rattle.reporting.specs.Calls.{Decision, LineAnswer, told_decision, decided_as, decide_of, Said, nth, line_of, laid, said_into}
 use Rattle.reporting.proofs.Resumed.{resumed, part_resumed, begin_resumed}
 use Rattle.reporting.proofs.Answered.{whole_lines}
 

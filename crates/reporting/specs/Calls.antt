@@ -1,5 +1,5 @@
 -- What deciding and each line answer, and what they leave. Assumes nothing.
-use Rattle.std.specs.Prelude.{ℕ, zero, suc, ◌-◌, ◌/◌, ◌^◌, List, [], ◌∷◌, ◌++◌, ltb, length, take, drop}
+use Rattle.std.specs.Prelude.{ℕ, zero, suc, ◌-◌, ◌/◌, ◌^◌, List, [], ◌∷◌, ◌++◌, ltb, length, take, drop, Option, Some, None, Result, Ok, Err}
 use Rattle.laws.specs.Choose.{choose}
 use Rattle.refusals.specs.Outcome.{Outcome, accepted, refused, and_then, numbers_in}
 use Rattle.refusals.specs.Units.{words_for}
@@ -15,21 +15,23 @@ use Rattle.streams.specs.Written.{pairs_bits}
 use Rattle.streams.specs.Calls.{write_pairs_of, pairs_written}
 use Rattle.reporting.specs.Lines.{decimal, line, lg_name, pairs_name}
 use Rattle.reporting.specs.Report.{flavor_name, offset_name, base_bits_name, bits_name, words_name, refused_name, flavor_word, word_line}
-use Rattle.reporting.specs.Machine.{done}
+use Rattle.reporting.specs.Machine.{Progress, done}
 use Rattle.reporting.specs.declared.Reading.{Reading}
-use Rattle.reporting.specs.declared.Progress.{Progress}
-use Rattle.reporting.specs.declared.Progress.TheVariants as progress
 use Rattle.reporting.specs.declared.Report.{Report}
-use Rattle.reporting.specs.declared.Decision.{Decision}
-use Rattle.reporting.specs.declared.Decision.TheVariants as decision
-use Rattle.reporting.specs.declared.LineAnswer.{LineAnswer}
-use Rattle.reporting.specs.declared.LineAnswer.TheVariants as answer
+
+-- the numbers of a list that was written, or why it is refused
+abbrev pub Decision : Type 0
+Decision = Result Report Refusal
+
+-- the length of a line, none past the last one, or a refusal
+abbrev pub LineAnswer : Type 0
+LineAnswer = Result (Option ℕ) Refusal
 
 -- Document 01's numbers for a decision
 abbrev pub told_decision : Decision → Outcome
-told_decision (decision.Written r) =
-    accepted (r.lg ∷ r.count ∷ flavor_number r.flavor ∷ r.offset ∷ r.base ∷ r.bits.0 ∷ r.words.0 ∷ [])
-told_decision (decision.Refused why) = told why
+told_decision (Ok r) =
+    accepted (r.lg ∷ r.count ∷ flavor_number r.flavor ∷ r.offset ∷ r.base ∷ r.length.bits.0 ∷ r.length.words.0 ∷ [])
+told_decision (Err why) = told why
 
 -- the offset of n pairs, which are the coupons too, and their other numbers
 abbrev pub rest_of : ℕ → ℕ → ℕ → ℕ → ℕ → Outcome
@@ -63,8 +65,8 @@ read_decided r pairs stream =
     (choose (done r) (written_of r.lg (take r.count pairs) stream) (decided_as (refused 15 0) stream))
 
 abbrev pub decide_of : Progress → List ℕ → List ℕ → Decided
-decide_of (progress.Reading r) pairs stream = read_decided r pairs stream
-decide_of (progress.Refused why) pairs stream = decided_as (told why) stream
+decide_of (Ok r) pairs stream = read_decided r pairs stream
+decide_of (Err why) pairs stream = decided_as (told why) stream
 
 -- a line, none as the last one is past, or none as the stream is shorter than its words
 pub data Said : Type 0 where
@@ -86,8 +88,8 @@ report_head r =
     ∷ line flavor_name (flavor_word r.flavor)
     ∷ line offset_name (decimal r.offset)
     ∷ line base_bits_name (decimal r.base)
-    ∷ line bits_name (decimal r.bits.0)
-    ∷ line words_name (decimal r.words.0)
+    ∷ line bits_name (decimal r.length.bits.0)
+    ∷ line words_name (decimal r.length.words.0)
     ∷ []
 
 -- word i, where the stream has it
@@ -95,16 +97,16 @@ abbrev pub word_said : List ℕ → ℕ → Said
 word_said stream i = choose (ltb i (length stream / 4)) (says (word_line (number stream) i)) cut
 
 unfoldable pub report_said : Report → List ℕ → ℕ → Said
-report_said r stream i = choose (ltb i 7) (nth (report_head r) i) (choose (ltb (i - 7) r.words.0) (word_said stream (i - 7)) ended)
+report_said r stream i = choose (ltb i 7) (nth (report_head r) i) (choose (ltb (i - 7) r.length.words.0) (word_said stream (i - 7)) ended)
 
 -- a refusal is a single line
 abbrev pub refused_said : Refusal → ℕ → Said
-refused_said why i = nth (line refused_name (decimal (numbers_in (told why)).0) ∷ []) i
+refused_said why i = nth (line refused_name (decimal (numbers_in (told why)).number) ∷ []) i
 
 -- line i of a decision
 abbrev pub line_of : Decision → List ℕ → ℕ → Said
-line_of (decision.Written r) stream i = report_said r stream i
-line_of (decision.Refused why) stream i = refused_said why i
+line_of (Ok r) stream i = report_said r stream i
+line_of (Err why) stream i = refused_said why i
 
 -- what is answered, and what the lent output holds afterwards
 pub record Laid : Type 0 where
@@ -116,9 +118,9 @@ laid a out = record { answer = a; out = out }
 
 -- 5 if the output is shorter than the line; else the line stands at the front, and output past it stays
 abbrev pub line_into : List ℕ → List ℕ → Laid
-line_into text out = choose (ltb (length out) (length text)) (laid (answer.Refused NoRoom) out) (laid (answer.Line (length text)) (text ++ drop (length text) out))
+line_into text out = choose (ltb (length out) (length text)) (laid (Err NoRoom) out) (laid (Ok (Some (length text))) (text ++ drop (length text) out))
 
 abbrev pub said_into : Said → List ℕ → Laid
 said_into (says text) out = line_into text out
-said_into ended out = laid answer.End out
-said_into cut out = laid (answer.Refused WrongLength) out
+said_into ended out = laid (Ok None) out
+said_into cut out = laid (Err WrongLength) out

@@ -13,9 +13,10 @@ mod saying;
 
 use numbers::Flavor;
 use refusals::Refusal;
-use refusals::units::{Bits, Words};
+use refusals::units::StreamLength;
 
-// The digits of a decimal so far.
+// The digits of a decimal so far. A flag beside the number, since `take` and `decide` are promised for every value of it: as an Option it would leave out
+// a number before the first digit.
 #[derive(Clone, Copy)]
 pub struct Digits {
     pub begun: bool,
@@ -32,7 +33,8 @@ pub enum Field {
     Number(Digits),
 }
 
-// A text of which so many lines are read whole; lg_k and the number of pairs once their lines are.
+// A text of which so many lines are read whole; lg_k and the number of pairs once their lines are. Numbers and no enum of states, and no fact that holds of
+// each: `take` and `decide` are promised for every value of them.
 #[derive(Clone, Copy)]
 pub struct Reading {
     pub lines: u64,
@@ -41,11 +43,8 @@ pub struct Reading {
     pub field: Field,
 }
 
-#[derive(Clone, Copy)]
-pub enum Progress {
-    Reading(Reading),
-    Refused(Refusal),
-}
+// How far a text is read, or why it is refused.
+pub type Progress = Result<Reading, Refusal>;
 
 // The numbers of a list that was written, which are also its lines.
 #[derive(Clone, Copy)]
@@ -55,31 +54,20 @@ pub struct Report {
     pub flavor: Flavor,
     pub offset: u8,
     pub base: u8,
-    pub bits: Bits,
-    pub words: Words,
+    pub length: StreamLength,
 }
 
-#[derive(Clone, Copy)]
-pub enum Decision {
-    Written(Report),
-    Refused(Refusal),
-}
+// The numbers of a list that was written, or why the text is refused.
+pub type Decision = Result<Report, Refusal>;
 
-#[derive(Clone, Copy)]
-pub enum LineAnswer {
-    // its length
-    Line(u64),
-    // the last line is past
-    End,
-    // 5: the output is shorter than the line; 2: the stream is shorter than its words
-    Refused(Refusal),
-}
+// The length of a line, none where the last line is past. 5: the output is shorter than the line; 2: the stream is shorter than its words.
+pub type LineAnswer = Result<Option<u64>, Refusal>;
 
 // Before the first byte.
 pub fn begin() -> Progress
     ensures { result ≡ begun }
 {
-    Progress::Reading(Reading {
+    Ok(Reading {
         lines: 0,
         lg: 0,
         count: 0,
@@ -92,10 +80,8 @@ pub fn take(progress: Progress, part: &[u8], pairs: &mut [u32]) -> Progress
     ensures { held result pairs.new ≡ taken_of progress part.now pairs.old }
 {
     let mut after = progress;
-    let mut i = 0;
-    while i < part.len() {
-        after = feeding::step(after, part[i], pairs);
-        i += 1;
+    for byte in part {
+        after = feeding::step(after, *byte, pairs);
     }
     after
 }
@@ -104,10 +90,7 @@ pub fn take(progress: Progress, part: &[u8], pairs: &mut [u32]) -> Progress
 pub fn decide(progress: Progress, pairs: &[u32], stream: &mut [u8]) -> Decision
     ensures { decided_as (told_decision result) stream.new ≡ decide_of progress pairs.now stream.old }
 {
-    match progress {
-        Progress::Refused(why) => Decision::Refused(why),
-        Progress::Reading(reading) => deciding::decide_read(reading, pairs, stream),
-    }
+    deciding::decide_read(progress?, pairs, stream)
 }
 
 // Line i of what is written, counted from 0, at the front of the output; the stream is the one that was decided on.
@@ -115,7 +98,7 @@ pub fn line(decision: Decision, stream: &[u8], i: u64, out: &mut [u8]) -> LineAn
     ensures { laid result out.new ≡ said_into (line_of decision stream.now i) out.old }
 {
     match decision {
-        Decision::Written(report) => saying::say_report(report, stream, i, out),
-        Decision::Refused(why) => saying::say_refused(why, i, out),
+        Ok(report) => saying::say_report(report, stream, i, out),
+        Err(why) => saying::say_refused(why, i, out),
     }
 }

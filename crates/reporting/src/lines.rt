@@ -1,4 +1,5 @@
-// A line of text at the front of a lent output.
+// A line of text at the front of a lent output. There is no heap here: digits and names lie in arrays of the most that they take, with a length beside them,
+// and bytes are put where `write!` would want a String.
 ghost use Rattle.std.specs.Prelude.{◌++◌, ◌≡◌, ◌+◌, ◌≤◌, length, take, drop};
 ghost use Rattle.std.proofs.Math.Seq.{paste};
 ghost use Rattle.io.specs.Counts.{IsPrefixLen};
@@ -14,12 +15,9 @@ fn put(bytes: &[u8], at: usize, out: &mut [u8]) -> usize
     requires { at + length bytes.now ≤ length out.old }
     ensures { (result ≡ at + length bytes.now) × (out.new ≡ paste out.old at bytes.now (length bytes.now)) }
 {
-    let mut i = 0;
-    while i < bytes.len() {
-        out[at + i] = bytes[i];
-        i += 1;
-    }
-    at + i
+    let end = at + bytes.len();
+    out[at..end].copy_from_slice(bytes);
+    end
 }
 
 // The name, the equals sign, what is said, the newline; its length is answered.
@@ -39,9 +37,9 @@ pub fn put_line(name: &[u8], said: &[u8], out: &mut [u8]) -> LineAnswer
     ensures { laid result out.new ≡ line_into (line name.now said.now) out.old }
 {
     if out.len() < name.len() + said.len() + 2 {
-        return LineAnswer::Refused(Refusal::NoRoom);
+        return Err(Refusal::NoRoom);
     }
-    LineAnswer::Line(write_line(name, said, out) as u64)
+    Ok(Some(write_line(name, said, out) as u64))
 }
 
 pub fn put_number(name: &[u8], number: u64, out: &mut [u8]) -> LineAnswer

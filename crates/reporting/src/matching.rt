@@ -1,6 +1,6 @@
-// One byte after another inside a line: what the next byte belongs to.
+// One byte after another inside a line: what the next byte belongs to. None: the byte may not stand there.
 ghost use Rattle.std.specs.Prelude.{◌&&◌, ◌≡◌, ◌-◌, eqb, leb};
-ghost use Rattle.reporting.specs.Machine.{lettered, named, letter_move, after_name, next_digits, index_move, number_move, move_of};
+ghost use Rattle.reporting.specs.Machine.{lettered, name_of, letter_move, after_name, next_digits, index_move, number_move, move_of};
 
 use crate::{Digits, Field};
 
@@ -11,13 +11,6 @@ pub enum Move {
     To(Field),
     // the line is whole, and says this number
     Ends(u32),
-    Wrong,
-}
-
-#[derive(Clone, Copy)]
-pub enum Longer {
-    Are(Digits),
-    No,
 }
 
 #[derive(Clone, Copy)]
@@ -26,154 +19,119 @@ pub enum Letter {
     Last,
     // the next one's place
     Inside(u64),
-    Wrong,
 }
 
-fn is_digit(byte: u8) -> bool
-    ensures { result ≡ (leb 48 byte && leb byte 57) }
-{
-    if byte < 48 {
-        return false;
-    }
-    byte <= 57
-}
-
-// A zero that no digit may follow.
-fn is_zero(digits: Digits) -> bool
-    ensures { result ≡ (digits.begun && eqb digits.sofar 0) }
-{
-    if digits.begun {
-        return digits.sofar == 0;
-    }
-    false
-}
+// No digit yet.
+const NONE: Digits = Digits {
+    begun: false,
+    sofar: 0,
+};
 
 // The digits with one more: no leading zero, and below 2^32.
-fn with_digit(digits: Digits, byte: u8) -> Longer
+#[tactic(auto, using(laws::proofs::Choices::choices))]
+fn with_digit(digits: Digits, byte: u8) -> Option<Digits>
     ensures { result ≡ next_digits digits byte }
 {
-    if !is_digit(byte) {
-        return Longer::No;
+    if !byte.is_ascii_digit() {
+        return None;
     }
-    if is_zero(digits) {
-        return Longer::No;
+    if digits.begun && digits.sofar == 0 {
+        return None;
     }
-    let sofar = 10 * (digits.sofar as u64) + ((byte - 48) as u64);
-    if sofar < 0x1_0000_0000 {
-        return Longer::Are(Digits {
-            begun: true,
-            sofar: sofar as u32,
-        });
-    }
-    Longer::No
+    let digit = u32::from(byte - b'0');
+    let sofar = digits.sofar.checked_mul(10)?.checked_add(digit)?;
+    Some(Digits { begun: true, sofar })
 }
 
 // A byte held against the letter at `place` of a name.
-fn letter_of(name: &[u8], place: u64, byte: u8) -> Letter
+#[tactic(auto, using(laws::proofs::Choices::choices))]
+fn letter_of(name: &[u8], place: u64, byte: u8) -> Option<Letter>
     ensures { result ≡ lettered name.now place byte }
 {
     let at = place as usize;
-    if name.len() <= at {
-        return Letter::Wrong;
-    }
-    if byte != name[at] {
-        return Letter::Wrong;
+    if name.len() <= at || byte != name[at] {
+        return None;
     }
     if at + 1 == name.len() {
-        return Letter::Last;
+        return Some(Letter::Last);
     }
-    Letter::Inside(place + 1)
+    Some(Letter::Inside(place + 1))
 }
 
-// The same in the name of a line, with the equals sign where no index comes before it.
-fn letter_in(line: u64, place: u64, byte: u8) -> Letter
-    ensures { result ≡ named line place byte }
+// What stands before a line's first digit: the name, with the equals sign where no index comes before it.
+#[tactic(auto, using(laws::proofs::Choices::choices))]
+fn name_of(line: u64) -> &'static [u8]
+    ensures { result.now ≡ name_of line }
 {
-    if line == 0 {
-        return letter_of(b"lg_k=", place, byte);
+    match line {
+        0 => b"lg_k=",
+        1 => b"pairs=",
+        _ => b"p",
     }
-    if line == 1 {
-        return letter_of(b"pairs=", place, byte);
-    }
-    letter_of(b"p", place, byte)
 }
 
 // A pair's name goes on with its index, another one with the number.
+#[tactic(auto, using(laws::proofs::Choices::choices))]
 fn after_name(line: u64) -> Field
     ensures { result ≡ after_name line }
 {
-    let digits = Digits {
-        begun: false,
-        sofar: 0,
-    };
     if line < 2 {
-        return Field::Number(digits);
+        return Field::Number(NONE);
     }
-    Field::Index(digits)
-}
-
-// The digits are ended by this byte.
-fn ends(digits: Digits, byte: u8, end: u8) -> bool
-    ensures { result ≡ (digits.begun && eqb byte end) }
-{
-    if digits.begun {
-        return byte == end;
-    }
-    false
+    Field::Index(NONE)
 }
 
 // The number is the index of the line's pair.
+#[tactic(auto, using(laws::proofs::Choices::choices))]
 fn is_index(line: u64, number: u32) -> bool
     ensures { result ≡ (leb 2 line && eqb number (line - 2)) }
 {
-    if 2 <= line {
-        return number as u64 == line - 2;
+    if line < 2 {
+        return false;
     }
-    false
+    u64::from(number) == line - 2
 }
 
-fn follow_name(line: u64, place: u64, byte: u8) -> Move
-    ensures { result ≡ letter_move line (named line place byte) }
+fn follow_name(line: u64, place: u64, byte: u8) -> Option<Move>
+    ensures { result ≡ letter_move line (lettered (name_of line) place byte) }
 {
-    match letter_in(line, place, byte) {
-        Letter::Last => Move::To(after_name(line)),
-        Letter::Inside(next) => Move::To(Field::Name(next)),
-        Letter::Wrong => Move::Wrong,
-    }
+    let field = match letter_of(name_of(line), place, byte)? {
+        Letter::Last => after_name(line),
+        Letter::Inside(next) => Field::Name(next),
+    };
+    Some(Move::To(field))
 }
 
-fn follow_index(line: u64, digits: Digits, byte: u8) -> Move
+// An equals sign ends the index.
+#[tactic(auto, using(laws::proofs::Choices::choices))]
+fn follow_index(line: u64, digits: Digits, byte: u8) -> Option<Move>
     ensures { result ≡ index_move line digits byte }
 {
-    if ends(digits, byte, b'=') {
-        if is_index(line, digits.sofar) {
-            return Move::To(Field::Number(Digits {
-                begun: false,
-                sofar: 0,
-            }));
+    if digits.begun && byte == b'=' {
+        if !is_index(line, digits.sofar) {
+            return None;
         }
-        return Move::Wrong;
+        return Some(Move::To(Field::Number(NONE)));
     }
-    match with_digit(digits, byte) {
-        Longer::Are(longer) => Move::To(Field::Index(longer)),
-        Longer::No => Move::Wrong,
-    }
+    let longer = with_digit(digits, byte)?;
+    Some(Move::To(Field::Index(longer)))
 }
 
-fn follow_number(digits: Digits, byte: u8) -> Move
+// A newline ends the number and the line.
+#[tactic(auto, using(laws::proofs::Choices::choices))]
+fn follow_number(digits: Digits, byte: u8) -> Option<Move>
     ensures { result ≡ number_move digits byte }
 {
-    if ends(digits, byte, b'\n') {
-        return Move::Ends(digits.sofar);
+    if digits.begun && byte == b'\n' {
+        return Some(Move::Ends(digits.sofar));
     }
-    match with_digit(digits, byte) {
-        Longer::Are(longer) => Move::To(Field::Number(longer)),
-        Longer::No => Move::Wrong,
-    }
+    let longer = with_digit(digits, byte)?;
+    Some(Move::To(Field::Number(longer)))
 }
 
 // Where a byte leaves a line.
-pub fn follow(line: u64, field: Field, byte: u8) -> Move
+#[tactic(auto, unfolding(crate::specs::Machine::move_of))]
+pub fn follow(line: u64, field: Field, byte: u8) -> Option<Move>
     ensures { result ≡ move_of line field byte }
 {
     match field {

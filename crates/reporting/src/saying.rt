@@ -7,13 +7,7 @@ ghost use Rattle.reporting.specs.Calls.{laid, line_into, said_into, nth, report_
 
 use crate::{LineAnswer, Report, lines};
 use numbers::Flavor;
-use refusals::Refusal;
-
-fn wide(byte: u8) -> u64
-    ensures { (result ≡ byte) × (result < 256) }
-{
-    byte as u64
-}
+use refusals::{Numbered, Refusal};
 
 // The 32-bit little-endian word at an index.
 fn word_at(stream: &[u8], index: u64) -> u64
@@ -21,70 +15,60 @@ fn word_at(stream: &[u8], index: u64) -> u64
     ensures { result ≡ bits_at (number stream.now) (32 * index) 32 }
 {
     let i = (index as usize) * 4;
-    wide(stream[i])
-        + wide(stream[i + 1]) * 0x100
-        + wide(stream[i + 2]) * 0x1_0000
-        + wide(stream[i + 3]) * 0x100_0000
+    let bytes = [stream[i], stream[i + 1], stream[i + 2], stream[i + 3]];
+    u64::from(u32::from_le_bytes(bytes))
 }
 
+#[tactic(auto, using(laws::proofs::Choices::choices))]
 fn say_word(stream: &[u8], index: u64, out: &mut [u8]) -> LineAnswer
     ensures { laid result out.new ≡ said_into (word_said stream.now index) out.old }
 {
     if index < (stream.len() / 4) as u64 {
         return lines::put_word(index, word_at(stream, index), out);
     }
-    LineAnswer::Refused(Refusal::WrongLength)
+    Err(Refusal::WrongLength)
 }
 
-fn say_flavor(flavor: Flavor, out: &mut [u8]) -> LineAnswer
-    ensures { laid result out.new ≡ line_into (line flavor_name (flavor_word flavor)) out.old }
+fn word_of(flavor: Flavor) -> &'static [u8]
+    ensures { result.now ≡ flavor_word flavor }
 {
     match flavor {
-        Flavor::Empty => lines::put_line(b"flavor", b"empty", out),
-        Flavor::Sparse => lines::put_line(b"flavor", b"sparse", out),
-        Flavor::Hybrid => lines::put_line(b"flavor", b"hybrid", out),
-        Flavor::Pinned => lines::put_line(b"flavor", b"pinned", out),
-        Flavor::Sliding => lines::put_line(b"flavor", b"sliding", out),
-    }
-}
-
-// The lines after that of the flavor, and before the words.
-fn say_numbers(report: Report, i: u64, out: &mut [u8]) -> LineAnswer
-    requires { (2 < i) × (i < 7) }
-    ensures { laid result out.new ≡ said_into (nth (report_head report) i) out.old }
-{
-    match i {
-        3 => lines::put_number(b"offset", report.offset as u64, out),
-        4 => lines::put_number(b"base_bits", report.base as u64, out),
-        5 => lines::put_number(b"bits", report.bits.0, out),
-        _ => lines::put_number(b"words", report.words.0, out),
+        Flavor::Empty => b"empty",
+        Flavor::Sparse => b"sparse",
+        Flavor::Hybrid => b"hybrid",
+        Flavor::Pinned => b"pinned",
+        Flavor::Sliding => b"sliding",
     }
 }
 
 // The lines before the words.
+#[tactic(auto, unfolding(crate::specs::Calls::report_head))]
 fn say_head(report: Report, i: u64, out: &mut [u8]) -> LineAnswer
     requires { i < 7 }
     ensures { laid result out.new ≡ said_into (nth (report_head report) i) out.old }
 {
-    let flavor = report.flavor;
     match i {
-        0 => lines::put_number(b"lg_k", report.lg as u64, out),
-        1 => lines::put_number(b"pairs", report.count as u64, out),
-        2 => say_flavor(flavor, out),
-        _ => say_numbers(report, i, out),
+        0 => lines::put_number(b"lg_k", u64::from(report.lg), out),
+        1 => lines::put_number(b"pairs", u64::from(report.count), out),
+        2 => lines::put_line(b"flavor", word_of(report.flavor), out),
+        3 => lines::put_number(b"offset", u64::from(report.offset), out),
+        4 => lines::put_number(b"base_bits", u64::from(report.base), out),
+        5 => lines::put_number(b"bits", report.length.bits.0, out),
+        _ => lines::put_number(b"words", report.length.words.0, out),
     }
 }
 
+#[tactic(auto, using(laws::proofs::Choices::choices), unfolding(crate::specs::Calls::report_said))]
 pub fn say_report(report: Report, stream: &[u8], i: u64, out: &mut [u8]) -> LineAnswer
     ensures { laid result out.new ≡ said_into (report_said report stream.now i) out.old }
 {
     if i < 7 {
         return say_head(report, i, out);
     }
-    if i - 7 < report.words.0 {
+    if i - 7 < report.length.words.0 {
         return say_word(stream, i - 7, out);
     }
-    LineAnswer::End
+    Ok(None)
 }
 
 // A refusal is a single line.
@@ -92,8 +76,8 @@ pub fn say_refused(why: Refusal, i: u64, out: &mut [u8]) -> LineAnswer
     ensures { laid result out.new ≡ said_into (refused_said why i) out.old }
 {
     if 0 < i {
-        return LineAnswer::End;
+        return Ok(None);
     }
-    let numbers = refusals::numbers_of(why);
-    lines::put_number(b"refused", numbers.0 as u64, out)
+    let numbered = Numbered::from(why);
+    lines::put_number(b"refused", u64::from(numbered.number), out)
 }

@@ -1,6 +1,7 @@
 // An item of a list as it is written: V, VxN, V~N, _N, /N, @I:V, or a name.
-use super::words;
-use super::words::Number;
+use super::numbers::decimal;
+use super::verdicts::NoVerdict;
+use std::str::FromStr;
 
 #[derive(Clone, Copy)]
 pub enum Item {
@@ -16,105 +17,67 @@ pub enum Item {
     WindowBook,
     PairTable,
     WindowTable,
-    No,
 }
 
-#[derive(Clone, Copy)]
-enum Halves {
-    Are(u64, u64),
-    No,
+// What an empty slot of a pair table holds.
+const EMPTY: u64 = 0xFFFF_FFFF;
+
+// The numbers before and after the first `mark`.
+fn halves(text: &str, mark: char) -> Option<(u64, u64)> {
+    let (first, second) = text.split_once(mark)?;
+    Some((decimal(first)?, decimal(second)?))
 }
 
-// The numbers before and after the first `byte`.
-fn split(text: &[u8], byte: u8) -> Halves {
-    let middle = words::find(text, byte);
-    if middle >= text.len() {
-        return Halves::No;
+fn cut(length: &str) -> Option<Item> {
+    Some(Item::Cut(decimal(length)?))
+}
+
+fn empty(times: &str) -> Option<Item> {
+    Some(Item::Times {
+        value: EMPTY,
+        times: decimal(times)?,
+    })
+}
+
+fn put(text: &str) -> Option<Item> {
+    let (place, value) = halves(text, ':')?;
+    Some(Item::Put { place, value })
+}
+
+fn entries(text: &str) -> Option<Item> {
+    if let Some(value) = decimal(text) {
+        return Some(Item::Times { value, times: 1 });
     }
-    let Number::Is(first) = words::decimal(&text[0..middle]) else {
-        return Halves::No;
-    };
-    let next = middle + 1;
-    let Number::Is(second) = words::decimal(&text[next..]) else {
-        return Halves::No;
-    };
-    Halves::Are(first, second)
-}
-
-fn cut(text: &[u8]) -> Item {
-    match words::decimal(text) {
-        Number::Is(n) => Item::Cut(n),
-        Number::No => Item::No,
+    if let Some((value, times)) = halves(text, 'x') {
+        return Some(Item::Times { value, times });
     }
+    let (first, times) = halves(text, '~')?;
+    Some(Item::Rising { first, times })
 }
 
-// _N: N empty slots of a pair table.
-fn empty(text: &[u8]) -> Item {
-    match words::decimal(text) {
-        Number::Is(times) => Item::Times {
-            value: 0xFFFF_FFFF,
-            times,
-        },
-        Number::No => Item::No,
+fn read(text: &str) -> Option<Item> {
+    if let Some(length) = text.strip_prefix('/') {
+        return cut(length);
     }
-}
-
-fn put(text: &[u8]) -> Item {
-    match split(text, b':') {
-        Halves::Are(place, value) => Item::Put { place, value },
-        Halves::No => Item::No,
+    if let Some(change) = text.strip_prefix('@') {
+        return put(change);
     }
-}
-
-fn rising(text: &[u8]) -> Item {
-    match split(text, b'~') {
-        Halves::Are(first, times) => Item::Rising { first, times },
-        Halves::No => Item::No,
+    if let Some(times) = text.strip_prefix('_') {
+        return empty(times);
     }
-}
-
-fn times(text: &[u8]) -> Item {
-    match split(text, b'x') {
-        Halves::Are(value, times) => Item::Times { value, times },
-        Halves::No => rising(text),
+    match text {
+        "pairbook" => Some(Item::PairBook),
+        "windowbook" => Some(Item::WindowBook),
+        "pairtable" => Some(Item::PairTable),
+        "windowtable" => Some(Item::WindowTable),
+        _ => entries(text),
     }
 }
 
-fn entries(text: &[u8]) -> Item {
-    match words::decimal(text) {
-        Number::Is(value) => Item::Times { value, times: 1 },
-        Number::No => times(text),
-    }
-}
+impl FromStr for Item {
+    type Err = NoVerdict;
 
-fn named(text: &[u8]) -> Item {
-    if check::same(text, b"pairbook") {
-        return Item::PairBook;
+    fn from_str(text: &str) -> Result<Item, NoVerdict> {
+        read(text).ok_or(NoVerdict::NotACase)
     }
-    if check::same(text, b"windowbook") {
-        return Item::WindowBook;
-    }
-    if check::same(text, b"pairtable") {
-        return Item::PairTable;
-    }
-    if check::same(text, b"windowtable") {
-        return Item::WindowTable;
-    }
-    entries(text)
-}
-
-pub fn read(text: &[u8]) -> Item {
-    if text.len() == 0 {
-        return Item::No;
-    }
-    if text[0] == b'/' {
-        return cut(&text[1..]);
-    }
-    if text[0] == b'@' {
-        return put(&text[1..]);
-    }
-    if text[0] == b'_' {
-        return empty(&text[1..]);
-    }
-    named(text)
 }

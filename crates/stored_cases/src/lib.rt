@@ -4,13 +4,10 @@
 // One space parts two words. `number` is the result, 0 where the call is accepted. Values left out at the end are 0.
 #![tactic(auto)]
 
-pub mod answers;
+pub mod cases;
 mod items;
-pub mod lists;
-pub mod lists_u16;
-pub mod lists_u32;
-pub mod lists_u64;
-pub mod lists_u8;
-mod runs;
+mod lists;
+mod numbers;
+#[cfg(test)]
+mod tests;
 pub mod verdicts;
-pub mod words;

@@ -1,47 +1,64 @@
-// What came of a line.
-ghost use Rattle.std.specs.Prelude.{◌≤◌};
+// What comes of a line.
+ghost use Rattle.std.specs.Prelude.{◌≡◌, ◌≢◌, ◌↔◌, IsTrue};
+ghost use Rattle.stored_cases.specs.declared.verdicts.NoVerdict.TheVariants.{NotACase, OutOfMemory};
+ghost use Rattle.stored_cases.specs.declared.verdicts.Verdict.TheVariants.{Agrees};
 
-#[derive(Clone, Copy)]
+use std::alloc::{AllocError, AllocFailed};
+
+// What comes of a case that ran.
+#[derive(Clone, Copy, Debug, PartialEq, Eq)]
 pub enum Verdict {
     Agrees,
     Disagrees,
+}
+
+// Why a line has no verdict.
+#[derive(Clone, Copy, Debug, PartialEq, Eq)]
+pub enum NoVerdict {
     NotACase,
-    // none of the calls that were looked for
-    NoSuchCall,
+    OutOfMemory(AllocError),
 }
 
-// Of two comparisons of one case: it agrees where both do.
-pub fn both(first: Verdict, second: Verdict) -> Verdict {
-    match first {
-        Verdict::Agrees => second,
-        Verdict::Disagrees => match second {
-            Verdict::Agrees => first,
-            _ => second,
-        },
-        _ => first,
+// What a line gives.
+pub type Outcome = Result<Verdict, NoVerdict>;
+
+impl From<AllocError> for NoVerdict {
+    ghost from_gives = { λ error why. why ≡ OutOfMemory error };
+
+    fn from(error: AllocError) -> NoVerdict {
+        NoVerdict::OutOfMemory(error)
     }
 }
 
-// 1 for a case that ran.
-pub fn ran(verdict: Verdict) -> u64
-    ensures { result ≤ 1 }
-{
-    match verdict {
-        Verdict::Agrees => 1,
-        Verdict::Disagrees => 1,
-        Verdict::NotACase => 0,
-        Verdict::NoSuchCall => 0,
+impl<T: Drop> From<AllocFailed<T>> for NoVerdict {
+    ghost from_gives = { λ _ why. why ≢ NotACase };
+
+    fn from(failed: AllocFailed<T>) -> NoVerdict {
+        NoVerdict::OutOfMemory(AllocError::from(failed))
     }
 }
 
-// 1 for a case that ran and agrees.
-pub fn agreed(verdict: Verdict) -> u64
-    ensures { result ≤ 1 }
-{
-    match verdict {
-        Verdict::Agrees => 1,
-        Verdict::Disagrees => 0,
-        Verdict::NotACase => 0,
-        Verdict::NoSuchCall => 0,
+// Of a comparison.
+impl From<bool> for Verdict {
+    ghost from_gives = { λ agrees verdict. (verdict ≡ Agrees) ↔ IsTrue agrees };
+
+    fn from(agrees: bool) -> Verdict {
+        if agrees {
+            Verdict::Agrees
+        } else {
+            Verdict::Disagrees
+        }
+    }
+}
+
+impl Verdict {
+    // Of two comparisons of one case: it agrees where both do.
+    pub fn and(self, other: Verdict) -> Verdict
+        ensures { (result ≡ Agrees) ↔ ((self ≡ Agrees) × (other ≡ Agrees)) }
+    {
+        match self {
+            Verdict::Agrees => other,
+            Verdict::Disagrees => self,
+        }
     }
 }

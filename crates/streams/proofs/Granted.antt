@@ -70,13 +70,17 @@ granted_some book k n pairs s size m r e l =
     let z : 15 + b ≡ 2 + (13 + b) = omega arith in
     rw z (omega arith)
 
-pub granted : (book : List ℕ) (k : ℕ) (pairs : List ℕ) → check_of book ≡ accepted [] → length book ≡ 65 → k ≤ 2 ^ 26 → pairs_judged k pairs ≡ accepted []
+pub granted_shaped : (book : List ℕ) (k : ℕ) (pairs : List ℕ) → AllShaped book → length book ≡ 65 → k ≤ 2 ^ 26 → pairs_judged k pairs ≡ accepted []
     → pairs_bits book k pairs ≤ most_bits_at k (length pairs)
 unfolding codes_from total most_bits_at
-granted book k [] ok size m e = omega arith
-granted book k (pair ∷ more) ok size m e =
+granted_shaped book k [] shaped size m e = omega arith
+granted_shaped book k (pair ∷ more) shaped size m e =
     rw (ne_eqb (suc (length more)) 0 (omega arith))
-    (granted_some book k (suc (length more)) (pair ∷ more) (book_accepted book ok).1 size m (rising k (pair ∷ more) e) refl (omega arith))
+    (granted_some book k (suc (length more)) (pair ∷ more) shaped size m (rising k (pair ∷ more) e) refl (omega arith))
+
+pub granted : (book : List ℕ) (k : ℕ) (pairs : List ℕ) → check_of book ≡ accepted [] → length book ≡ 65 → k ≤ 2 ^ 26 → pairs_judged k pairs ≡ accepted []
+    → pairs_bits book k pairs ≤ most_bits_at k (length pairs)
+granted book k pairs ok size m e = granted_shaped book k pairs (book_accepted book ok).1 size m e
 
 -- what is granted is far below 2^64
 pub most_small : (k n : ℕ) → n ≤ 2 ^ 28 → most_bits_at k n ≤ 2 ^ 34

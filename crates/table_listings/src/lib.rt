@@ -3,72 +3,63 @@
 // is total and refuses by number.
 #![tactic(auto)]
 
-ghost use Rattle.std.specs.Prelude.{◌≡◌, [], ◌∷◌, ◌^◌, ◌≤◌};
+ghost use Rattle.std.specs.Prelude.{◌≡◌, ◌≤◌, [], ◌∷◌, length, IfOk};
 ghost use Rattle.refusals.specs.Outcome.{accepted, and_then};
+ghost use Rattle.refusals.specs.Told.{told_number, told_plain};
 ghost use Rattle.tables.specs.Calls.{list_of_items, extract_into, walk_into};
-ghost use Rattle.pair_table.specs.Told.{told_verdict};
-ghost use Rattle.table_listings.specs.Told.{told_list};
 
 mod extraction;
 mod walking;
 
-use pair_table::{PairTable, Verdict};
+use pair_table::{JudgedTable, PairTable};
 use refusals::Refusal;
 
-#[derive(Clone, Copy)]
-pub enum ListAnswer {
-    // how many items stand at the front of the output
-    Listed(u32),
-    Refused(Refusal),
-}
-
-// The number of slots.
-fn size(lg: u8) -> usize
-    requires { lg ≤ 26 }
-    ensures { result ≡ 2 ^ lg }
-{
-    1usize << lg
-}
-
 // Refusals 2, 15, 5.
-fn judge_room(table: PairTable, region: &[u32], spare: &[u32], out: &[u32]) -> Verdict
-    ensures { list_of_items region.now spare.now table.lg table.valid table.items out.now ≡ and_then (told_verdict result) (accepted (table.items ∷ [])) }
+#[tactic(auto, using(laws::proofs::Choices::choices), unfolding(tables::specs::Calls::list_of_items))]
+fn judge_room<'a>(
+    table: PairTable,
+    region: &'a [u32],
+    spare: &[u32],
+    out: &[u32],
+) -> Result<JudgedTable<'a>, Refusal>
+    ensures says { list_of_items region.now spare.now table.lg table.valid table.items out.now ≡ and_then (told_plain result) (accepted (table.items ∷ [])) }
+    ensures same { IfOk result (λ judged. (judged.slots.now ≡ region.now) × (judged.shape.lg ≡ table.lg) × (judged.shape.valid ≡ table.valid) × (judged.items ≡ table.items)) }
+    ensures room { IfOk result (λ judged. judged.items ≤ length out.now) }
 {
-    match pair_table::judge(table, region, spare) {
-        Verdict::Refused(why) => Verdict::Refused(why),
-        Verdict::Passes => {
-            if out.len() < table.items as usize {
-                return Verdict::Refused(Refusal::NoRoom);
-            }
-            Verdict::Passes
-        }
+    let judged = pair_table::judge_table(table, region, spare)?;
+    if out.len() < table.items as usize {
+        return Err(Refusal::NoRoom);
     }
+    Ok(judged)
 }
 
 // The items in slot order, but before the first empty slot those with the highest valid bit set go to the end, backwards: they wrapped around.
-pub fn extract(table: PairTable, region: &[u32], spare: &[u32], out: &mut [u32]) -> ListAnswer
-    ensures { (told_list result ≡ list_of_items region.now spare.now table.lg table.valid table.items out.old)
+pub fn extract(
+    table: PairTable,
+    region: &[u32],
+    spare: &[u32],
+    out: &mut [u32],
+) -> Result<u32, Refusal>
+    ensures { (told_number result ≡ list_of_items region.now spare.now table.lg table.valid table.items out.old)
         × (out.new ≡ extract_into region.now spare.now table.lg table.valid table.items out.old) }
 {
-    match judge_room(table, region, spare, out) {
-        Verdict::Refused(why) => ListAnswer::Refused(why),
-        Verdict::Passes => {
-            extraction::extract_into(region, table.lg, table.valid, table.items, out);
-            ListAnswer::Listed(table.items)
-        }
-    }
+    let judged = judge_room(table, region, spare, out)?;
+    extraction::extract_into(judged, out);
+    Ok(table.items)
 }
 
 // The items in the order of a walk over the slots by a stride near the golden ratio.
-pub fn walk(table: PairTable, region: &[u32], spare: &[u32], out: &mut [u32]) -> ListAnswer
-    ensures { (told_list result ≡ list_of_items region.now spare.now table.lg table.valid table.items out.old)
+// From `extract` it differs in the writer alone: to take the writer as a closure needs a contract that is longer than these three lines.
+pub fn walk(
+    table: PairTable,
+    region: &[u32],
+    spare: &[u32],
+    out: &mut [u32],
+) -> Result<u32, Refusal>
+    ensures { (told_number result ≡ list_of_items region.now spare.now table.lg table.valid table.items out.old)
         × (out.new ≡ walk_into region.now spare.now table.lg table.valid table.items out.old) }
 {
-    match judge_room(table, region, spare, out) {
-        Verdict::Refused(why) => ListAnswer::Refused(why),
-        Verdict::Passes => {
-            walking::walk_into(region, table.lg, out);
-            ListAnswer::Listed(table.items)
-        }
-    }
+    let judged = judge_room(table, region, spare, out)?;
+    walking::walk_into(judged, out);
+    Ok(table.items)
 }

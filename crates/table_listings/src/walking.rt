@@ -2,12 +2,9 @@
 // After `walk_table_updating_sketch` in src/cpc/union.rs of the Rust crate datasketches 0.5.0 (Apache-2.0); changed: see lib.rt, and the strides are held in a table where the Rust multiplies floats.
 ghost use Rattle.std.specs.Prelude.{◌≡◌, ◌++◌, ℕ, ◌+◌, ◌*◌, ◌%◌, ◌^◌, ◌≤◌, ◌<◌, length, drop};
 ghost use Rattle.laws.specs.Lists.{list_of};
-ghost use Rattle.tables.specs.Slots.{items};
 ghost use Rattle.tables.specs.Listings.{stride_at, walk_order};
-ghost use Rattle.tables.specs.Shapes.{Lawful};
 
-use super::size;
-use pair_table::EMPTY;
+use pair_table::{EMPTY, JudgedTable, Shape};
 
 // The stride for each lg 2 to 26: floor(6180339887498949 * 2^lg / 10^16), plus one if even.
 const STRIDES: [usize; 25] = [
@@ -22,42 +19,41 @@ fn strides() -> [usize; 25]
     STRIDES
 }
 
-// The stride of a walk over 2^lg slots.
-fn stride(lg: u8) -> usize
-    requires { (2 ≤ lg) × (lg ≤ 26) }
-    ensures { (result ≡ stride_at lg) × (result < 2 ^ lg) }
+// The stride of a walk over the slots.
+#[tactic(auto, using(crate::proofs::Strides::stride_found))]
+fn stride(shape: Shape) -> usize
+    ensures { (result ≡ stride_at shape.lg) × (result < 2 ^ shape.lg) }
 {
-    let table = strides();
-    let i = lg as usize - 2;
-    table[i]
+    strides()[usize::from(shape.lg) - 2]
 }
 
-// The slot g after k, of n, wrapping.
-fn onward(n: usize, k: usize, g: usize) -> usize
-    requires { (k < n) × (g < n) × (n ≤ 2 ^ 26) }
-    ensures { (result < n) × ((i : ℕ) → k ≡ i * g % n → result ≡ (i + 1) * g % n) }
+// The slot g after k, wrapping.
+#[tactic(auto, using(crate::proofs::Listed::onwards))]
+fn onward(shape: Shape, k: usize, g: usize) -> usize
+    requires { (k < 2 ^ shape.lg) × (g < 2 ^ shape.lg) }
+    ensures { (result < 2 ^ shape.lg) × ((i : ℕ) → k ≡ i * g % 2 ^ shape.lg → result ≡ (i + 1) * g % 2 ^ shape.lg) }
 {
+    let n = shape.size();
     let q = k + g;
     if q < n { q } else { q - n }
 }
 
-// All is judged: the items of a lawful table.
-pub fn walk_into(region: &[u32], lg: u8, out: &mut [u32])
-    requires { ((v : ℕ) × Lawful region.now lg v (items region.now (2 ^ lg))) × (items region.now (2 ^ lg) ≤ length out.old) }
-    ensures { out.new ≡ walk_order region.now lg ++ drop (items region.now (2 ^ lg)) out.old }
+// The items of a table. That the output has room stays a clause, as in extraction.rt: a struct that holds the `&mut` is no plainer.
+pub fn walk_into(table: JudgedTable, out: &mut [u32])
+    requires { table.items ≤ length out.old }
+    ensures { out.new ≡ walk_order table.entry.slots.now table.entry.shape.lg ++ drop table.entry.items out.old }
 {
-    let n = size(lg);
-    let g = stride(lg);
+    let shape = table.shape;
+    let slots = table.slots;
+    let g = stride(shape);
     let mut k = 0;
-    let mut r = 0;
-    let mut i = 0;
-    while i < n {
-        let x = region[k];
+    let mut next = 0;
+    for _met in 0..shape.size() {
+        let x = slots[k];
         if x != EMPTY {
-            out[r] = x;
-            r += 1;
+            out[next] = x;
+            next += 1;
         }
-        k = onward(n, k, g);
-        i += 1;
+        k = onward(shape, k, g);
     }
 }

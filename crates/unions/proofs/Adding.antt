@@ -1,5 +1,5 @@
 -- Pairs added to a list, and the words ORed beside it. Assumes nothing.
-use mathlib.Core.Path.{◌≡◌, refl, sym, ap, ap₂, ◌∙◌}
+use mathlib.Core.Path.{◌≡◌, refl, sym, ap, ap₂, subst, ◌∙◌}
 use mathlib.Core.Bool.{Bool, true, false}
 use mathlib.Core.List.{List, [], ◌∷◌, ◌++◌, append-nil, append_assoc}
 use Prim.Native.Nat.{ℕ, zero, suc, ◌+◌, ◌*◌, ◌%◌, ◌^◌, ◌≤◌, ◌<◌}
@@ -18,7 +18,7 @@ use Rattle.matrices.specs.Parts.{surprise_word, surprise_pairs, first_column}
 use Rattle.matrices.specs.Shapes.{row_pairs}
 use Rattle.matrices.proofs.FirstColumn.{ored_to, ored_none, ored_more, ored_end, surprise_lt}
 use Rattle.matrices.proofs.SplitTurn.{listed_to, to_none, to_more, to_all, over_turn}
-use Rattle.unions.specs.Steps.{columns_of, Added}
+use Rattle.unions.specs.Steps.{SurpriseSum, columns_of, Added}
 use Rattle.unions.specs.declared.splitting.Surprises.{Surprises}
 
 -- ---- the columns of pairs
@@ -100,3 +100,16 @@ added_both p q a b c x y z f g = record {
       g.list (written ++ p) lent (f.count ∙ ap (λ (i : ℕ). i + length p) n ∙ sym (length-append written p)) (f.list written lent n w)
       ∙ ap (λ (l : List ℕ). l ++ drop (length l) lent) (append_assoc written p q);
 }
+
+-- the surprises of all rows, added to none, are what a split lists and counts
+pub whole_added : (wide : Bool) (o : ℕ) (m : List ℕ) → ((t : ℕ) → get_or m t 0 < 2 ^ 64) → (to : ℕ) → to ≡ length m → (out : List ℕ) (all : Surprises) (left : List ℕ)
+    → Added (listed_to wide o m to) (record { ored = 0; count = 0 }) out all left
+    → SurpriseSum wide o m all × (left ≡ surprise_pairs wide o m ++ drop (length (surprise_pairs wide o m)) out)
+whole_added wide o m fits to e out all left f =
+    let s = subst (λ (x : List ℕ). Added x (record { ored = 0; count = 0 }) out all left) (ap (listed_to wide o m) e ∙ to_all wide o m) f in (
+      record {
+        first = ap (count_trailing_zeros 64) (s.ored ∙ or_zero_l _) ∙ columns_all wide o m fits;
+        count = omega (arith, s.count);
+      },
+      s.list [] out refl refl,
+    )

@@ -11,7 +11,8 @@ use borrow.Author.Tests.{eq-eqb, ne_eqb, eqb-true}
 use lib.Bits.{bit_or, bit_xor, xor_lt}
 use lib.Count.{ones, count_trailing_zeros}
 use lib.Dec.{eqb}
-use lib.ListN.{length, get_or, set, length-append}
+use lib.ListN.{length, get_or, set, take, length-append}
+use Rattle.std.proofs.lemmas.List.{length-take-le, get_or-take}
 use lib.Pow.{pow-lt}
 use lib.Seq.{paste, get_or-set_same, get_or-set_other}
 use Rattle.laws.specs.Below.{one}
@@ -28,7 +29,7 @@ use Rattle.matrices.proofs.FirstColumn.{surprise_lt}
 use Rattle.matrices.proofs.Fits.{count_le}
 use Rattle.matrices.proofs.Listed.{list_same, list_none, list_split}
 use Rattle.matrices.proofs.SplitTurn.{to_all}
-use Rattle.unions.specs.Steps.{QuietIf, Found, Added, hit_rows, pairs_from, block_pairs}
+use Rattle.unions.specs.Steps.{QuietIf, Found, BlocksWithin, Added, hit_rows, pairs_from, block_pairs}
 use Rattle.unions.specs.declared.splitting.Surprises.{Surprises}
 use Rattle.unions.proofs.Adding.{added_none, added_row, added_both}
 
@@ -188,6 +189,10 @@ module _ (wide : Bool) (o : ℕ) (m : List ℕ) where
         ap (λ (b : Bool). b && surprising (64 * (r + t + 1) + c))
         (without rest t j ∙ ap (differs (has rest j)) (ne_eqb j t (omega arith)) ∙ differs_none (has rest j)))))
 
+-- row r + i holds a surprise
+abbrev pub hit : Bool → ℕ → List ℕ → ℕ → ℕ → Bool
+hit wide o m r i = not (eqb (surprise_word wide o (get_or m (r + i) 0)) 0)
+
 -- what holds at the loop's head: some rows are listed, and the others are those left
 pub record HitsListed (wide : Bool) (o : ℕ) (m : List ℕ) (r : ℕ) (before : Surprises) (out : List ℕ) (rest : ℕ) (so : Surprises) (left : List ℕ) : Type 0 where
   pub done : List ℕ
@@ -283,6 +288,15 @@ module _ (wide : Bool) (o : ℕ) (m : List ℕ) where
   blocks_set found n v (suc k) h =
       ap₂ (λ (l : List ℕ) (r : ℕ). l ++ pairs_from wide o m r 8) (blocks_set found n v k (omega arith)) (get_or-set_other found n k v 0 (omega arith))
 
+  -- the first n blocks alone
+  pub blocks_taken : (found : List ℕ) (n : ℕ) → n ≤ length found → block_pairs wide o m (take n found) (length (take n found)) ≡ block_pairs wide o m found n
+  unfolding block_pairs
+  blocks_taken found n h = ap (block_pairs wide o m (take n found)) (length-take-le n found h) ∙ go n (omega arith)
+    where
+      go : (k : ℕ) → k ≤ n → block_pairs wide o m (take n found) k ≡ block_pairs wide o m found k
+      go zero l = refl
+      go (suc k) l = ap₂ (λ (x : List ℕ) (r : ℕ). x ++ pairs_from wide o m r 8) (go k (omega arith)) (get_or-take n found k 0 (omega arith))
+
   pub found_start : (from : ℕ) (found : List ℕ) → Found wide o m from from found 0
   found_start from found =
       let z : from - from ≡ 0 = omega arith in
@@ -336,3 +350,9 @@ module _ (wide : Bool) (o : ℕ) (m : List ℕ) where
       let e : to ≡ from + (to - from) = omega arith in
       ap (pairs_from wide o m 0) e ∙ from_more wide o m 0 from (to - from)
       ∙ ap (λ (x : List ℕ). pairs_from wide o m 0 from ++ x) (ap (λ (r : ℕ). pairs_from wide o m r (to - from)) (zero-add from) ∙ f.all)
+
+  -- they are among the rows
+  pub taken_within : (from to : ℕ) (found : List ℕ) (n : ℕ) → n ≤ length found → Found wide o m from to found n → BlocksWithin (take n found) (length m)
+  taken_within from to found n h f i l =
+      let k : i < n = omega (arith, l, length-take-le n found h) in
+      omega (arith, f.within i k, get_or-take n found i 0 k)

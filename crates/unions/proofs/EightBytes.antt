@@ -8,8 +8,6 @@ use lib.Count.{ones, ones_cat}
 use lib.ListN.{get_or}
 use lib.Pow.{pow-add}
 use Rattle.laws.specs.Below.{sum_below}
-use Rattle.laws.proofs.Sums.{sum_split}
-use Rattle.unions.specs.Steps.{four_at}
 
 ones_four : (a b c d : ℕ) → a < 2 ^ 8 → b < 2 ^ 8 → c < 2 ^ 8 → ones (a + b * 256 + c * 65536 + d * 16777216) ≡ ones a + ones b + ones c + ones d
 ones_four a b c d ha hb hc =
@@ -17,28 +15,33 @@ ones_four a b c d ha hb hc =
     ap ones e ∙ ones_cat 8 ((d * 2 ^ 8 + c) * 2 ^ 8 + b) a ha
     ∙ omega (arith, ones_cat 8 (d * 2 ^ 8 + c) b hb, ones_cat 8 d c hc)
 
-pub ones_eight : (p q : ℕ) → p < 2 ^ 32 → ones (p + q * 4294967296) ≡ ones q + ones p
-ones_eight p q h = let e : p + q * 4294967296 ≡ q * 2 ^ 32 + p = omega arith in ap ones e ∙ ones_cat 32 q p h
+-- eight bytes as one number, lowest first
+module _ (w : List ℕ) (byte : (i : ℕ) → get_or w i 0 < 2 ^ 8) (i : ℕ) where
+  abbrev at : ℕ → ℕ
+  at j = get_or w (i + j) 0
 
--- eight bytes more
-module _ (w : List ℕ) (byte : (i : ℕ) → get_or w i 0 < 2 ^ 8) where
   abbrev f : ℕ → ℕ
-  f i = ones (get_or w i 0)
+  f j = ones (get_or w (i + j) 0)
 
-  at_four : (i : ℕ) → ones (four_at w i) ≡ f i + f (i + 1) + f (i + 2) + f (i + 3)
-  at_four i = ones_four (get_or w i 0) (get_or w (i + 1) 0) (get_or w (i + 2) 0) (get_or w (i + 3) 0) (byte i) (byte (i + 1)) (byte (i + 2))
-
-  eight : (i : ℕ) → sum_below 8 (λ j. f (i + j)) ≡ f i + f (i + 1) + f (i + 2) + f (i + 3) + (f (i + 4) + f (i + 4 + 1) + f (i + 4 + 2) + f (i + 4 + 3))
+  eight : sum_below 8 f ≡ f 0 + f 1 + f 2 + f 3 + f 4 + f 5 + f 6 + f 7
   unfolding sum_below
-  eight i =
-      let z : i + 0 ≡ i = omega arith in
-      let a : i + 5 ≡ i + 4 + 1 = omega arith in
-      let b : i + 6 ≡ i + 4 + 2 = omega arith in
-      let c : i + 7 ≡ i + 4 + 3 = omega arith in
-      omega (arith, ap f z, ap f a, ap f b, ap f c)
+  eight = omega arith
 
-  pub eight_more : (i : ℕ) → sum_below i (λ j. ones (get_or w j 0)) + (ones (four_at w (i + 4)) + ones (four_at w i)) ≡ sum_below (i + 8) (λ j. ones (get_or w j 0))
-  eight_more i = omega (arith, at_four i, at_four (i + 4), eight i, sum_split i 8 f)
+  pub ones_of_eight : ones (get_or w i 0 + at 1 * 256 + at 2 * 65536 + at 3 * 16777216 + at 4 * 4294967296 + at 5 * 1099511627776 + at 6 * 281474976710656 + at 7 * 72057594037927936) ≡ sum_below 8 f
+  ones_of_eight =
+      let low = get_or w i 0 + at 1 * 256 + at 2 * 65536 + at 3 * 16777216 in
+      let high = at 4 + at 5 * 256 + at 6 * 65536 + at 7 * 16777216 in
+      let z : i + 0 ≡ i = omega arith in
+      let e : get_or w i 0 + at 1 * 256 + at 2 * 65536 + at 3 * 16777216 + at 4 * 4294967296 + at 5 * 1099511627776 + at 6 * 281474976710656 + at 7 * 72057594037927936 ≡ high * 2 ^ 32 + low = omega arith in
+      let h : low < 2 ^ 32 = omega (arith, byte i, byte (i + 1), byte (i + 2), byte (i + 3)) in
+      ap ones e ∙ ones_cat 32 high low h
+      ∙ omega (
+        arith,
+        eight,
+        ap (λ (j : ℕ). ones (get_or w j 0)) z,
+        ones_four (get_or w i 0) (at 1) (at 2) (at 3) (byte i) (byte (i + 1)) (byte (i + 2)),
+        ones_four (at 4) (at 5) (at 6) (at 7) (byte (i + 4)) (byte (i + 5)) (byte (i + 6)),
+      )
 
 -- a k of 16 or more is a multiple of eight
 pub eights : (lg : ℕ) → 4 ≤ lg → 2 ^ lg % 8 ≡ 0

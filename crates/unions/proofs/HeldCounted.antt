@@ -1,7 +1,7 @@
 -- The late 10 and the coupons held, as they are judged: without a matrix. Assumes nothing.
-use mathlib.Core.Path.{◌≡◌, refl, sym, ap, ◌∙◌}
+use mathlib.Core.Path.{◌≡◌, refl, sym, ap, ◌∙◌, subst}
 use mathlib.Core.Logic.{⊎_elim}
-use mathlib.Core.Bool.{Bool, false, ◌&&◌, true≢false}
+use mathlib.Core.Bool.{Bool, true, false, ◌&&◌, true≢false}
 use mathlib.Core.List.{List, []}
 use Prim.Native.Nat.{ℕ, ◌+◌, ◌-◌, ◌*◌, ◌/◌, ◌%◌, ◌^◌, ◌≤◌, ◌<◌}
 use native.Mathlib.Omega.{arith}
@@ -25,12 +25,42 @@ use Rattle.matrices.proofs.CouponsHeld.{coupons_wide, coupons_listed}
 use Rattle.matrices.proofs.Judged.{judged_sorted, judged_below}
 use Rattle.matrices.proofs.LateReserved.{late_wide}
 use Rattle.matrices.proofs.Places.{columns_apart}
-use Rattle.unions.specs.Steps.{WideSource}
+use Rattle.numbers.specs.Numbers.{offset_at}
+use Rattle.laws.specs.Choose.{choose}
+use Rattle.matrices.specs.Parts.{windowed}
+use Rattle.unions.specs.declared.parts.Parts.{Parts}
+use Rattle.unions.proofs.ShapeTold.{window_is, offset_is, most_is}
 
 -- without a window, the coupons held are the pairs of the list
 pub listed_count : (k c : ℕ) (window ps : List ℕ) → has_window k c ≡ false → pairs_judged k ps ≡ accepted [] → coupons (matrix_of k (held k c window ps)) ≡ length ps
 listed_count k c window ps w e =
     ap (λ (f : ℕ → ℕ → Bool). coupons (matrix_of k f)) (held_listed k c window ps w) ∙ coupons_listed k ps (judged_sorted k ps e) (judged_below k ps e)
+
+-- a source with a window, whose pairs are judged
+pub record WideSource (lg c o : ℕ) (window ps : List ℕ) : Type 0 where
+  pub low : 4 ≤ lg
+  pub high : lg ≤ 26
+  pub most : c ≤ 64 * 2 ^ lg
+  pub wide : has_window (2 ^ lg) c ≡ true
+  pub offset : o ≡ offset_at (2 ^ lg) c
+  pub small : o ≤ 61
+  pub long : length window ≡ 2 ^ lg
+  pub pairs : pairs_judged (2 ^ lg) ps ≡ accepted []
+
+pub wide_source : (p : Parts) → windowed p.shape.flavor ≡ true → pairs_judged p.shape.size.k p.pairs.now ≡ accepted []
+    → WideSource p.shape.size.lg p.shape.coupons p.shape.offset.column p.window.now p.pairs.now
+wide_source p wide pairs =
+    let s = p.shape in
+    record {
+      low = s.size.low;
+      high = s.size.high;
+      most = most_is s;
+      wide = sym (window_is s) ∙ wide;
+      offset = offset_is s;
+      small = s.offset.most;
+      long = p.long ∙ ap (λ (b : Bool). choose b s.size.k 0) wide ∙ s.size.power;
+      pairs = subst (λ (k : ℕ). pairs_judged k p.pairs.now ≡ accepted []) s.size.power pairs;
+    }
 
 module _ (lg c o : ℕ) (window ps : List ℕ) (s : WideSource lg c o window ps) where
   pub held_reserved : reserved lg (matrix_of (2 ^ lg) (held (2 ^ lg) c window ps)) ≡ (eqb lg 26 && (leb 56 o && has (get_or window 67108863 0) (63 - o)))

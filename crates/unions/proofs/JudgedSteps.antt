@@ -2,20 +2,20 @@
 use mathlib.Core.Path.{◌≡◌, refl, sym, ap, ap₂, ◌∙◌}
 use mathlib.Core.Bool.{Bool, true, false, not}
 use mathlib.Core.List.{List, []}
-use Prim.Native.Nat.{ℕ, ◌^◌, ◌≤◌}
+use Prim.Native.Nat.{ℕ, ◌^◌}
 use borrow.Author.Tests.{eq-eqb, ne_eqb}
 use lib.Dec.{eqb}
 use Rattle.laws.specs.Choose.{choose}
 use Rattle.refusals.specs.Outcome.{Outcome, accepted, refused, and_then}
 use Rattle.refusals.specs.Told.{told}
 use Rattle.refusals.specs.declared.Refusal.{Refusal}
+use Rattle.numbers.specs.Calls.{outside}
 use Rattle.numbers.specs.Numbers.{offset_at}
 use Rattle.pair_lists.specs.Lists.{pairs_judged, judge_pairs_of}
 use Rattle.matrices.specs.Matrix.{matrix_of, coupons, reserved}
 use Rattle.matrices.specs.Source.{has_window, held, places_judged, source_judged}
 use Rattle.unions.specs.Steps.{held_judged}
 use Rattle.unions.proofs.Answered.{through}
-use Rattle.unions.proofs.ShapeTold.{inside_of}
 
 -- the late 10, then 17
 module _ (lg c : ℕ) (window ps : List ℕ) where
@@ -44,9 +44,9 @@ module _ (lg c : ℕ) (window ps : List ℕ) where
   source_chain = refl
 
   -- the pairs are judged
-  pub pairs_told : 4 ≤ lg → lg ≤ 26 → judge_pairs_of lg ps ≡ pairs_judged (2 ^ lg) ps
+  pub pairs_told : outside lg ≡ false → judge_pairs_of lg ps ≡ pairs_judged (2 ^ lg) ps
   unfolding judge_pairs_of
-  pairs_told l h = ap (λ (b : Bool). choose b (refused 1 0) (pairs_judged (2 ^ lg) ps)) (inside_of lg l h)
+  pairs_told e = ap (λ (b : Bool). choose b (refused 1 0) (pairs_judged (2 ^ lg) ps)) e
 
   pub source_refused : (why : Refusal) → told why ≡ pairs_judged (2 ^ lg) ps → told why ≡ source_judged lg c window ps
   source_refused why e = through why _ e ∙ sym source_chain
@@ -67,14 +67,3 @@ module _ (lg c : ℕ) (window ps : List ℕ) where
         ∙ sym
         (source_chain ∙ ap (λ (p : Outcome). and_then p (and_then (places_judged (has_window (2 ^ lg) c) (offset_at (2 ^ lg) c) window ps) (held_judged lg c window ps))) e
         ∙ ap (λ (b : Bool). and_then (places_judged b (offset_at (2 ^ lg) c) window ps) (held_judged lg c window ps)) w)
-
--- refusal 14, by the window and by the pairs
-module _ (first second more : Outcome) where
-  pub first_refuses : (why : Refusal) → told why ≡ first → told why ≡ and_then (and_then first second) more
-  first_refuses why e = through why more (through why second e)
-
-  pub second_refuses : (why : Refusal) → first ≡ accepted [] → told why ≡ second → told why ≡ and_then (and_then first second) more
-  second_refuses why a e = through why more (e ∙ sym (ap (λ (x : Outcome). and_then x second) a))
-
-  pub both_accept : first ≡ accepted [] → second ≡ accepted [] → more ≡ and_then (and_then first second) more
-  both_accept a b = sym (ap (λ (x : Outcome). and_then (and_then x second) more) a ∙ ap (λ (x : Outcome). and_then x more) b)

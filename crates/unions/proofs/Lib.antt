@@ -10,10 +10,11 @@ pub mod HeldCounted
 pub mod JudgedSteps
 pub mod MergeTold
 pub mod Only
+pub mod JudgedTold
 pub mod PlanSteps
 pub mod QuietRows
 pub mod ShapeTold
 pub mod SourceTaken
 pub mod SplitTold
 pub mod Stretches
-pub mod Zeroing
+pub mod WrongPlaces

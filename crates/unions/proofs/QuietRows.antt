@@ -15,9 +15,6 @@ or_none : (a b : ℕ) → bit_or a b ≡ 0 → (a ≡ 0) × (b ≡ 0)
 or_none a b e = (omega (arith, or_add_and a b, and_le_l a b, and_le_r a b), omega (arith, or_add_and a b, and_le_l a b, and_le_r a b))
 
 module _ (wide : Bool) (o : ℕ) (m : List ℕ) where
-  pub quiet_none : (w r : ℕ) → QuietIf w wide o m r (r + 0)
-  quiet_none w r = record { none = λ z t h l. absurd (omega arith) }
-
   pub quiet_row : (w r : ℕ) → w ≡ surprise_word wide o (get_or m r 0) → QuietIf w wide o m r (r + 1)
   quiet_row w r e = record { none = λ z t h l. let q : r ≡ t = omega arith in subst (λ (x : ℕ). surprise_word wide o (get_or m x 0) ≡ 0) q (sym e ∙ z) }
 

@@ -1,5 +1,5 @@
 -- Stretches of rows that are their window bytes. Assumes nothing.
-use mathlib.Core.Path.{◌≡◌, refl, ap, ◌∙◌}
+use mathlib.Core.Path.{◌≡◌, ap, ◌∙◌}
 use mathlib.Core.Bool.{Bool, ◌||◌}
 use mathlib.Core.List.{List}
 use Prim.Native.Nat.{ℕ, ◌+◌, ◌*◌, ◌/◌, ◌%◌, ◌≤◌, ◌<◌}
@@ -21,9 +21,6 @@ falls_next k row d h =
     ap (λ (x : ℕ). x % k) q ∙ digits_mod (row / k) h
 
 module _ (k o : ℕ) (window : List ℕ) (from : ℕ) (before : List ℕ) where
-  pub stretch_start : Stretched k o window from from before before
-  stretch_start = record { long = refl; rows = λ m src same l e. e }
-
   pub stretch_turn : (pos : 0 < k) (r t : ℕ) (now : List ℕ) → k ≤ length before → from ≤ r → t ≡ r % k → Stretched k o window from r before now
       → Stretched k o window from (r + 1) before (set now t (word_of 64 (λ c. at now t c || has (joined_at o (get_or window r 0) 0) c)))
   stretch_turn pos r t now h l et s = record {

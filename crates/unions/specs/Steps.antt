@@ -1,26 +1,24 @@
 -- How private contracts say it: what is judged so far, and work half done. Nothing here has to be believed. Assumes nothing.
-use Rattle.std.specs.Prelude.{◌≡◌, ℕ, zero, suc, ◌+◌, ◌-◌, ◌*◌, ◌/◌, ◌%◌, ◌^◌, ◌≤◌, ◌<◌, Bool, true, not, ◌&&◌, ◌||◌, List, [], ◌∷◌, ◌++◌, eqb, leb, ltb, length, get_or, drop}
-use Rattle.std.specs.Int.Bits.{bit_and, bit_or, bit_xor}
+use Rattle.std.specs.Prelude.{Option, Some, None, ◌≡◌, ℕ, zero, suc, ◌+◌, ◌-◌, ◌*◌, ◌/◌, ◌%◌, ◌^◌, ◌≤◌, ◌<◌, Bool, not, ◌&&◌, ◌||◌, List, [], ◌∷◌, ◌++◌, eqb, leb, ltb, length, get_or, drop}
+use Rattle.std.specs.Int.Bits.{bit_or}
 use Rattle.std.specs.Int.Count.{count_trailing_zeros}
 use Rattle.laws.specs.Below.{any_below, every_below}
 use Rattle.laws.specs.Choose.{choose}
 use Rattle.laws.specs.Columns.{has, word_of}
 use Rattle.refusals.specs.Outcome.{Outcome, accepted, refused, if_accepted}
-use Rattle.refusals.specs.Told.{told}
 use Rattle.numbers.specs.Calls.{outside}
-use Rattle.numbers.specs.Numbers.{flavor_at, offset_at}
+use Rattle.numbers.specs.Numbers.{flavor_at}
 use Rattle.numbers.specs.Told.{flavor_number}
-use Rattle.pair_lists.specs.Lists.{pairs_judged}
 use Rattle.matrices.specs.Calls.{offset_in, window_in, listed}
 use Rattle.matrices.specs.Listing.{in_list, list_from}
 use Rattle.matrices.specs.Matrix.{at, matrix_of, coupons, reserved, in_window}
 use Rattle.matrices.specs.Parts.{surprise_word, surprise_pairs, first_column}
-use Rattle.matrices.specs.Shapes.{folded, merged, joined_at, Sorted, windows}
-use Rattle.matrices.specs.Source.{has_window, held, columns_judged}
+use Rattle.matrices.specs.Shapes.{folded, merged, joined_at, windows}
+use Rattle.matrices.specs.Source.{has_window, held}
+use Rattle.unions.specs.declared.judged.Judged.{Judged}
+use Rattle.unions.specs.declared.parts.Parts.{Parts}
 use Rattle.unions.specs.declared.planning.Plan.{Plan}
-use Rattle.unions.specs.declared.planning.Plan.TheVariants as plan
-use Rattle.unions.specs.declared.planning.Shape.{Shape}
-use Rattle.unions.specs.declared.splitting.Cut.{Cut}
+use Rattle.unions.specs.declared.shape.Shape.{Shape}
 use Rattle.unions.specs.declared.splitting.Surprises.{Surprises}
 
 -- a source with a window, but for its late pairs, those past the window: below the window each column but those of the listed pairs
@@ -30,22 +28,6 @@ early_set o window ps r c = (in_window o c && has (get_or window r 0) (c - o)) |
 -- m, and of the first n pairs of a list those from column `first` on, their rows taken mod k
 abbrev pub pairs_set : ℕ → ℕ → List ℕ → List ℕ → ℕ → ℕ → ℕ → Bool
 pairs_set k first m ps n r c = at m r c || any_below n (λ i. eqb (get_or ps i 0 / 64 % k) r && (leb first c && eqb c (get_or ps i 0 % 64)))
-
--- the rows of m from k on are zero
-pub record ZeroFrom (k : ℕ) (m : List ℕ) : Type 0 where
-  pub zero : (r : ℕ) → k ≤ r → get_or m r 0 ≡ 0
-
--- the pairs of the list are in the first n rows
-pub record RowsBelow (ps : List ℕ) (n : ℕ) : Type 0 where
-  pub row : (i : ℕ) → i < length ps → get_or ps i 0 / 64 < n
-
--- a source that fits a matrix of so many rows
-pub record Fitting (n : ℕ) (s : Shape) (window ps : List ℕ) : Type 0 where
-  pub small : s.offset ≤ 61
-  pub long : length window ≡ choose s.wide n 0
-  pub sorted : Sorted ps
-  pub rows : RowsBelow ps n
-  pub apart : s.wide ≡ true → columns_judged s.offset 0 ps ≡ accepted []
 
 -- from `start` on, no pair of the list is in a row before r
 pub record NoneBefore (ps : List ℕ) (start r : ℕ) : Type 0 where
@@ -101,30 +83,24 @@ abbrev pub zeros_from : ℕ → List ℕ → Bool
 zeros_from k m = every_below (length m) (λ r. ltb r k || eqb (get_or m r 0) 0)
 
 -- the shape of a source with so many coupons
-pub record ShapeOf (lg c : ℕ) (s : Shape) : Type 0 where
-  pub low : 4 ≤ lg
-  pub high : lg ≤ 26
-  pub most : c ≤ 64 * 2 ^ lg
-  pub wide : s.wide ≡ has_window (2 ^ lg) c
-  pub flavor : s.flavor ≡ flavor_at (2 ^ lg) c
-  pub offset : s.offset ≡ offset_at (2 ^ lg) c
-  pub small : s.offset ≤ 61
+abbrev pub ShapeOf : ℕ → ℕ → Shape → Type 0
+ShapeOf lg c s = (s.size.lg ≡ lg) × (s.coupons ≡ c)
 
--- a plan is the refusal of the judgement, or the shape where that accepts
-abbrev pub PlannedBy : Outcome → ℕ → ℕ → Plan → Type 0
-PlannedBy o lg c (plan.Take s) = (o ≡ accepted []) × ShapeOf lg c s
-PlannedBy o lg c (plan.Refused why) = told why ≡ o
+-- a source with this window and these pairs
+abbrev pub PartsOf : ℕ → ℕ → List ℕ → List ℕ → Parts → Type 0
+PartsOf lg c window ps p = ShapeOf lg c p.shape × (p.window.now ≡ window) × (p.pairs.now ≡ ps)
 
--- a source with a window, whose pairs are judged
-pub record WideSource (lg c o : ℕ) (window ps : List ℕ) : Type 0 where
-  pub low : 4 ≤ lg
-  pub high : lg ≤ 26
-  pub most : c ≤ 64 * 2 ^ lg
-  pub wide : has_window (2 ^ lg) c ≡ true
-  pub offset : o ≡ offset_at (2 ^ lg) c
-  pub small : o ≤ 61
-  pub long : length window ≡ 2 ^ lg
-  pub pairs : pairs_judged (2 ^ lg) ps ≡ accepted []
+abbrev pub JudgedOf : ℕ → ℕ → List ℕ → List ℕ → Judged → Type 0
+JudgedOf lg c window ps p = ShapeOf lg c p.shape × (p.window.now ≡ window) × (p.pairs.now ≡ ps)
+
+-- that source, and the size of a union
+abbrev pub PlanOf : ℕ → ℕ → ℕ → List ℕ → List ℕ → Plan → Type 0
+PlanOf present lg c window ps p = (p.present.lg ≡ present) × JudgedOf lg c window ps p.source
+
+-- refusal 14 at this place, if there is one
+abbrev pub wrong_at : Option ℕ → Outcome
+wrong_at None = accepted []
+wrong_at (Some place) = refused 14 place
 
 -- the late 10, then 17
 unfoldable pub held_judged : ℕ → ℕ → List ℕ → List ℕ → Outcome
@@ -148,14 +124,6 @@ room_judged lg m room =
     (accepted
     (coupons m ∷ flavor_number (flavor_at (2 ^ lg) (coupons m)) ∷ offset_in lg m ∷ first_column (window_in lg m) (offset_in lg m) m ∷ length (listed lg m) ∷ []))
 
--- four bytes as one number, lowest first
-abbrev pub four_at : List ℕ → ℕ → ℕ
-four_at bytes i = get_or bytes i 0 + get_or bytes (i + 1) 0 * 256 + get_or bytes (i + 2) 0 * 65536 + get_or bytes (i + 3) 0 * 16777216
-
--- what is kept of a word, with what is flipped, is its surprise word
-pub record CutAt (c : Cut) : Type 0 where
-  pub word : (w : ℕ) → w < 2 ^ 64 → bit_xor (bit_and w c.kept) c.flipped ≡ surprise_word c.wide c.offset w
-
 -- which of eight rows hold a surprise
 abbrev pub hit_rows : Bool → ℕ → List ℕ → ℕ → ℕ
 hit_rows wide o m r = word_of 8 (λ j. not (eqb (surprise_word wide o (get_or m (r + j) 0)) 0))
@@ -168,6 +136,10 @@ pairs_from wide o m r n = list_from (64 * r) (64 * n) (λ x. has (surprise_word 
 unfoldable pub block_pairs : Bool → ℕ → List ℕ → List ℕ → ℕ → List ℕ
 block_pairs wide o m found zero = []
 block_pairs wide o m found (suc n) = block_pairs wide o m found n ++ pairs_from wide o m (get_or found n 0) 8
+
+-- blocks of eight rows that are among the first n
+abbrev pub BlocksWithin : List ℕ → ℕ → Type 0
+BlocksWithin found n = (i : ℕ) → i < length found → get_or found i 0 + 8 ≤ n
 
 -- blocks that hold all surprises of the rows from `from` to `to`
 pub record Found (wide : Bool) (o : ℕ) (m : List ℕ) (from to : ℕ) (found : List ℕ) (n : ℕ) : Type 0 where

@@ -4,27 +4,31 @@
 #![tactic(auto)]
 
 ghost use Rattle.std.specs.Prelude.{◌≡◌};
+ghost use Rattle.refusals.specs.Told.{told_plain, told_number};
 ghost use Rattle.matrices.specs.Calls.{count_of, split_of, split_window, split_pairs, expand_of, expanded_matrix, new_union_of, new_matrix, merge_of, merged_matrix};
-ghost use Rattle.unions.specs.Told.{told_count, told_split, told_expand, told_union};
+ghost use Rattle.unions.specs.Told.{told_split, told_union};
 
-mod clearing;
+mod block;
 mod counting;
+mod cut;
 mod filling;
+mod judged;
 mod judging;
+mod matrix;
 mod merging;
+mod offset;
+mod parts;
 mod planning;
+mod rows;
+mod shape;
 mod splitting;
 mod words;
 
-use numbers::{Flavor, RowsAnswer, rows};
-use planning::Plan;
+use self::matrix::Matrix;
+use self::rows::Rows;
+use numbers::Flavor;
+use numbers::size::SketchSize;
 use refusals::Refusal;
-
-#[derive(Clone, Copy)]
-pub enum CountAnswer {
-    Counted(u32),
-    Refused(Refusal),
-}
 
 // What a split says of a matrix.
 #[derive(Clone, Copy)]
@@ -32,22 +36,10 @@ pub struct Summary {
     pub coupons: u32,
     pub flavor: Flavor,
     pub offset: u8,
-    // the first interesting column, 64 if there is none
+    // the first interesting column, 64 if there is none: no Option, since `split_of` promises the 64, and C gets it
     pub column: u8,
     // how many pairs are listed
     pub pairs: u32,
-}
-
-#[derive(Clone, Copy)]
-pub enum SplitAnswer {
-    Parted(Summary),
-    Refused(Refusal),
-}
-
-#[derive(Clone, Copy)]
-pub enum ExpandAnswer {
-    Expanded,
-    Refused(Refusal),
 }
 
 // A union besides its matrix.
@@ -68,51 +60,40 @@ pub struct Source {
     pub coupons: u32,
 }
 
-#[derive(Clone, Copy)]
-pub enum UnionAnswer {
-    Made(CpcUnion),
-    Refused(Refusal),
-}
-
 // How many pairs a matrix holds.
-pub fn count(lg: u8, matrix: &[u64]) -> CountAnswer
-    ensures { told_count result ≡ count_of lg matrix.now }
+#[tactic(auto, using(laws::proofs::Choices::choices), unfolding(matrices::specs::Calls::count_of))]
+pub fn count(lg: u8, matrix: &[u64]) -> Result<u32, Refusal>
+    ensures { told_number result ≡ count_of lg matrix.now }
 {
-    match rows(lg) {
-        RowsAnswer::Refused(why) => CountAnswer::Refused(why),
-        RowsAnswer::Rows(k) => {
-            if (matrix.len() as u64) != k {
-                return CountAnswer::Refused(Refusal::WrongLength);
-            }
-            if counting::has_reserved(lg, matrix) {
-                return CountAnswer::Refused(Refusal::Reserved { place: 67108863 });
-            }
-            CountAnswer::Counted(counting::count_ones_in(matrix) as u32)
-        }
+    let size = SketchSize::of(lg)?;
+    let read = Matrix::of(size, matrix)?;
+    if read.has_reserved() {
+        return Err(Refusal::Reserved { place: 67108863 });
     }
+    Ok(read.coupons() as u32)
 }
 
 // A matrix as a sketch: window and list of surprises.
-pub fn split(lg: u8, matrix: &[u64], window: &mut [u8], pairs: &mut [u32]) -> SplitAnswer
+#[tactic(auto, using(laws::proofs::Choices::choices), unfolding(matrices::specs::Calls::split_of))]
+pub fn split(
+    lg: u8,
+    matrix: &[u64],
+    window: &mut [u8],
+    pairs: &mut [u32],
+) -> Result<Summary, Refusal>
     ensures { (told_split result ≡ split_of lg matrix.now window.old pairs.old)
         × (window.new ≡ split_window lg matrix.now window.old pairs.old)
         × (pairs.new ≡ split_pairs lg matrix.now window.old pairs.old) }
 {
-    match rows(lg) {
-        RowsAnswer::Refused(why) => SplitAnswer::Refused(why),
-        RowsAnswer::Rows(k) => {
-            if (matrix.len() as u64) != k {
-                return SplitAnswer::Refused(Refusal::WrongLength);
-            }
-            if (window.len() as u64) != k {
-                return SplitAnswer::Refused(Refusal::WrongLength);
-            }
-            if counting::has_reserved(lg, matrix) {
-                return SplitAnswer::Refused(Refusal::Reserved { place: 67108863 });
-            }
-            splitting::split_rows(lg, matrix, window, pairs)
-        }
+    let size = SketchSize::of(lg)?;
+    let read = Matrix::of(size, matrix)?;
+    if (window.len() as u64) != size.k {
+        return Err(Refusal::WrongLength);
     }
+    if read.has_reserved() {
+        return Err(Refusal::Reserved { place: 67108863 });
+    }
+    splitting::split_rows(read, window, pairs)
 }
 
 // The pairs that a window and a list stand for, as a matrix.
@@ -122,37 +103,30 @@ pub fn expand(
     window: &[u8],
     pairs: &[u32],
     matrix: &mut [u64],
-) -> ExpandAnswer
-    ensures { (told_expand result ≡ expand_of lg coupons window.now pairs.now matrix.old)
+) -> Result<(), Refusal>
+    ensures { (told_plain result ≡ expand_of lg coupons window.now pairs.now matrix.old)
         × (matrix.new ≡ expanded_matrix lg coupons window.now pairs.now matrix.old) }
 {
-    match planning::judge_expansion(lg, coupons, matrix.len(), window, pairs) {
-        Plan::Refused(why) => ExpandAnswer::Refused(why),
-        Plan::Take(shape) => {
-            filling::fill(matrix, shape, window, pairs);
-            ExpandAnswer::Expanded
-        }
-    }
+    let source = planning::judge_expansion(lg, coupons, matrix.len(), window, pairs)?;
+    filling::fill(matrix, &source);
+    Ok(())
 }
 
 // A union of nothing: the matrix is zeroed.
-pub fn new_union(lg: u8, seed: u64, matrix: &mut [u64]) -> UnionAnswer
+#[tactic(auto, using(laws::proofs::Choices::choices), unfolding(matrices::specs::Calls::new_union_of))]
+pub fn new_union(lg: u8, seed: u64, matrix: &mut [u64]) -> Result<CpcUnion, Refusal>
     ensures { (told_union result ≡ new_union_of lg seed matrix.old) × (matrix.new ≡ new_matrix lg seed matrix.old) }
 {
-    match rows(lg) {
-        RowsAnswer::Refused(why) => UnionAnswer::Refused(why),
-        RowsAnswer::Rows(k) => {
-            if (matrix.len() as u64) != k {
-                return UnionAnswer::Refused(Refusal::WrongLength);
-            }
-            clearing::clear(matrix);
-            UnionAnswer::Made(CpcUnion {
-                lg: lg,
-                present: lg,
-                seed: seed,
-            })
-        }
+    let size = SketchSize::of(lg)?;
+    if (matrix.len() as u64) != size.k {
+        return Err(Refusal::WrongLength);
     }
+    matrix.fill(0);
+    Ok(CpcUnion {
+        lg,
+        present: lg,
+        seed,
+    })
 }
 
 // A source joins a union: its pairs, their rows taken mod the k from then on.
@@ -162,23 +136,23 @@ pub fn merge(
     source: Source,
     window: &[u8],
     pairs: &[u32],
-) -> UnionAnswer
+) -> Result<CpcUnion, Refusal>
     ensures { (told_union result ≡ merge_of state.lg state.present state.seed matrix.old source.lg source.seed source.coupons window.now pairs.now)
         × (matrix.new ≡ merged_matrix state.lg state.present state.seed matrix.old source.lg source.seed source.coupons window.now pairs.now) }
 {
-    match planning::judge_merge(state, matrix, source, window, pairs) {
-        Plan::Refused(why) => UnionAnswer::Refused(why),
-        Plan::Take(shape) => {
-            let empty = source.coupons == 0;
-            if empty {
-                return UnionAnswer::Made(state);
-            }
-            let present = merging::take_in(matrix, state.present, source.lg, shape, window, pairs);
-            UnionAnswer::Made(CpcUnion {
-                lg: state.lg,
-                present: present,
-                seed: state.seed,
-            })
-        }
+    let plan = planning::judge_merge(state, matrix, source, window, pairs)?;
+    let empty = source.coupons == 0;
+    if empty {
+        return Ok(state);
     }
+    let mut rows = Rows {
+        words: matrix,
+        size: plan.present,
+    };
+    rows.take_in(&plan.source);
+    Ok(CpcUnion {
+        lg: state.lg,
+        present: rows.size.lg,
+        seed: state.seed,
+    })
 }

@@ -1,185 +1,168 @@
 // What an expansion and a merge judge before they write: 1, 17, 2, 15, the source, 16.
 // After src/cpc/union.rs (update) of the Rust crate datasketches 0.5.0 (Apache-2.0); changed: the order is document 01's, and seeds come last.
-ghost use Rattle.std.specs.Prelude.{◌≡◌, not, [], ◌^◌, ◌≤◌, eqb, length};
+ghost use Rattle.std.specs.Prelude.{◌≡◌, not, [], length, IfOk};
 ghost use Rattle.laws.specs.Choose.{choose};
 ghost use Rattle.refusals.specs.Outcome.{accepted, refused, and_then};
 ghost use Rattle.matrices.specs.Calls.{lawful_union, merge_judged};
 ghost use Rattle.matrices.specs.Parts.{windowed};
 ghost use Rattle.matrices.specs.Source.{source_judged};
-ghost use Rattle.unions.specs.Steps.{ShapeOf, PlannedBy, shape_judged, lent_judged, zeros_from};
-ghost use Rattle.unions.specs.Told.{told_judged};
+ghost use Rattle.unions.specs.Steps.{ShapeOf, PartsOf, JudgedOf, PlanOf, shape_judged, lent_judged, zeros_from};
+ghost use Rattle.refusals.specs.Told.{told_plain};
 
-use super::counting::has_reserved;
-use super::judging::{Judgement, judge_source};
+use super::judged::Judged;
+use super::matrix::Matrix;
+use super::offset::Offset;
+use super::parts::Parts;
+use super::shape::Shape;
 use super::{CpcUnion, Source};
-use numbers::{
-    Flavor, FlavorAnswer, NumberAnswer, RowsAnswer, determine_correct_offset, determine_flavor,
-    rows,
-};
+use numbers::Flavor;
+use numbers::size::SketchSize;
 use refusals::Refusal;
 
-// What the coupons say of a source or a matrix: its flavor, a window or none, and its offset.
-#[derive(Clone, Copy)]
-pub struct Shape {
-    pub flavor: Flavor,
-    pub wide: bool,
-    pub offset: u64,
-}
+impl Shape {
+    // Refusals 1, and 17 where the coupons exceed 64k.
+    #[tactic(auto, using(laws::proofs::Choices::choices), unfolding(crate::specs::Steps::shape_judged))]
+    pub fn of(lg: u8, coupons: u32) -> Result<Shape, Refusal>
+        ensures told { told_plain result ≡ shape_judged lg coupons }
+        ensures given { IfOk result (ShapeOf lg coupons) }
+    {
+        let size = SketchSize::of(lg)?;
+        let column = u64::from(size.offset(coupons)?);
+        Ok(Shape {
+            size,
+            coupons,
+            flavor: size.flavor(coupons),
+            offset: Offset { column },
+        })
+    }
 
-#[derive(Clone, Copy)]
-pub enum Plan {
-    Take(Shape),
-    Refused(Refusal),
-}
+    // Empty and Sparse have no window.
+    pub fn is_wide(self) -> bool
+        ensures { result ≡ windowed self.flavor }
+    {
+        match self.flavor {
+            Flavor::Empty | Flavor::Sparse => false,
+            Flavor::Hybrid | Flavor::Pinned | Flavor::Sliding => true,
+        }
+    }
 
-pub fn has_window(flavor: Flavor) -> bool
-    ensures { result ≡ windowed flavor }
-{
-    match flavor {
-        Flavor::Empty => false,
-        Flavor::Sparse => false,
-        Flavor::Hybrid => true,
-        Flavor::Pinned => true,
-        Flavor::Sliding => true,
+    // The bytes of a source's window.
+    fn window_bytes(self) -> u64
+        ensures { result ≡ choose (windowed self.flavor) self.size.k 0 }
+    {
+        if self.is_wide() {
+            return self.size.k;
+        }
+        0
     }
 }
 
-// Refusals 1, and 17 where the coupons exceed 64k.
-pub fn shape_of(lg: u8, coupons: u32) -> Plan
-    ensures { PlannedBy (shape_judged lg coupons) lg coupons result }
+// Refusals 1, 17 where the coupons exceed 64k, 2: a matrix of so many words, a window of so many bytes at the source's lg.
+#[tactic(auto, using(laws::proofs::Choices::choices), unfolding(crate::specs::Steps::lent_judged, crate::specs::Steps::shape_judged))]
+fn judge_lent<'a>(
+    size: SketchSize,
+    words: usize,
+    lg: u8,
+    coupons: u32,
+    window: &'a [u8],
+    pairs: &'a [u32],
+) -> Result<Parts<'a>, Refusal>
+    ensures told { told_plain result ≡ lent_judged size.lg words lg coupons (length window.now) }
+    ensures given { IfOk result (PartsOf lg coupons window.now pairs.now) }
 {
-    match determine_correct_offset(lg, coupons) {
-        NumberAnswer::Refused(why) => Plan::Refused(why),
-        NumberAnswer::Given(offset) => match determine_flavor(lg, coupons) {
-            FlavorAnswer::Refused(why) => Plan::Refused(why),
-            FlavorAnswer::Flavored(flavor) => Plan::Take(Shape {
-                flavor: flavor,
-                wide: has_window(flavor),
-                offset: offset as u64,
-            }),
-        },
+    let shape = Shape::of(lg, coupons)?;
+    if (words as u64) != size.k || (window.len() as u64) != shape.window_bytes() {
+        return Err(Refusal::WrongLength);
     }
+    Ok(Parts {
+        shape,
+        window,
+        pairs,
+    })
 }
 
-// The bytes of a source's window.
-fn window_bytes(lg: u8, wide: bool) -> u64
-    requires { lg ≤ 26 }
-    ensures { result ≡ choose wide (2 ^ lg) 0 }
+// Expansion: 1, 17 if over 64k, 2, then the source.
+#[tactic(auto, using(laws::proofs::Choices::choices), unfolding(crate::specs::Steps::lent_judged, crate::specs::Steps::shape_judged))]
+pub fn judge_expansion<'a>(
+    lg: u8,
+    coupons: u32,
+    words: usize,
+    window: &'a [u8],
+    pairs: &'a [u32],
+) -> Result<Judged<'a>, Refusal>
+    ensures told { told_plain result ≡ and_then (lent_judged lg words lg coupons (length window.now)) (source_judged lg coupons window.now pairs.now) }
+    ensures given { IfOk result (JudgedOf lg coupons window.now pairs.now) }
 {
-    if wide {
-        return 1 << (lg as u64);
-    }
-    0
+    let size = SketchSize::of(lg)?;
+    judge_lent(size, words, lg, coupons, window, pairs)?.judge()
 }
 
-// Refusals 1, 17 where the coupons exceed 64k, 2: a matrix of so many words at lg, a window of so many bytes at the source's lg.
-fn judge_lent(lg: u8, words: usize, from: u8, coupons: u32, bytes: usize) -> Plan
-    ensures { PlannedBy (lent_judged lg words from coupons bytes) from coupons result }
+// The rows from k on are zero.
+fn zero_from(matrix: &[u64], size: SketchSize) -> bool
+    ensures { result ≡ zeros_from size.k matrix.now }
 {
-    match rows(lg) {
-        RowsAnswer::Refused(why) => Plan::Refused(why),
-        RowsAnswer::Rows(k) => match shape_of(from, coupons) {
-            Plan::Refused(why) => Plan::Refused(why),
-            Plan::Take(shape) => {
-                if (words as u64) != k {
-                    return Plan::Refused(Refusal::WrongLength);
-                }
-                if (bytes as u64) != window_bytes(from, shape.wide) {
-                    return Plan::Refused(Refusal::WrongLength);
-                }
-                Plan::Take(shape)
-            }
-        },
-    }
-}
-
-// The rows from 2^lg on are zero.
-fn zero_from(matrix: &[u64], lg: u8) -> bool
-    requires { lg ≤ 26 }
-    ensures { result ≡ zeros_from (2 ^ lg) matrix.now }
-{
-    let mut row: usize = 1 << (lg as u64);
-    while row < matrix.len() {
+    for row in size.k as usize..matrix.len() {
         if matrix[row] != 0 {
             return false;
         }
-        row += 1;
     }
     true
 }
 
-fn is_lawful(lg: u8, present: u8, matrix: &[u64]) -> bool
-    requires { (lg ≤ 26) × (length matrix.now ≡ 2 ^ lg) }
-    ensures { result ≡ lawful_union lg present matrix.now }
+// Refusal 15, or the present size of a lawful union.
+#[tactic(auto, using(laws::proofs::Choices::choices), unfolding(matrices::specs::Calls::lawful_union))]
+fn judge_union(matrix: Matrix, present: u8) -> Result<SketchSize, Refusal>
+    ensures told { told_plain result ≡ choose (not (lawful_union matrix.entry.size.lg present matrix.entry.words.now)) (refused 15 0) (accepted []) }
+    ensures given { IfOk result (λ s. s.lg ≡ present) }
 {
-    if present < 4 {
-        return false;
+    let Ok(now) = SketchSize::of(present) else {
+        return Err(Refusal::NotLawful);
+    };
+    if matrix.size.lg < present {
+        return Err(Refusal::NotLawful);
     }
-    if lg < present {
-        return false;
+    if !zero_from(matrix.words, now) {
+        return Err(Refusal::NotLawful);
     }
-    if !zero_from(matrix, present) {
-        return false;
+    if matrix.has_reserved() {
+        return Err(Refusal::NotLawful);
     }
-    !has_reserved(lg, matrix)
+    Ok(now)
 }
 
-// Expansion: 1, 17 if over 64k, 2, then the source.
-pub fn judge_expansion(lg: u8, coupons: u32, words: usize, window: &[u8], pairs: &[u32]) -> Plan
-    ensures { PlannedBy (and_then (lent_judged lg words lg coupons (length window.now)) (source_judged lg coupons window.now pairs.now)) lg coupons result }
-{
-    match judge_lent(lg, words, lg, coupons, window.len()) {
-        Plan::Refused(why) => Plan::Refused(why),
-        Plan::Take(shape) => match judge_source(lg, coupons, shape, window, pairs) {
-            Judgement::Refused(why) => Plan::Refused(why),
-            Judgement::Lawful => Plan::Take(shape),
-        },
-    }
-}
-
-// The source of a merge, then 16.
-fn judge_seeds(seed: u64, source: Source, shape: Shape, window: &[u8], pairs: &[u32]) -> Judgement
-    requires { ShapeOf source.lg source.coupons shape × (length window.now ≡ choose shape.wide (2 ^ source.lg) 0) }
-    ensures { told_judged result ≡ and_then (source_judged source.lg source.coupons window.now pairs.now) (choose (not (eqb seed source.seed)) (refused 16 0) (accepted [])) }
-{
-    match judge_source(source.lg, source.coupons, shape, window, pairs) {
-        Judgement::Refused(why) => Judgement::Refused(why),
-        Judgement::Lawful => {
-            let differ = seed != source.seed;
-            if differ {
-                return Judgement::Refused(Refusal::SeedsDiffer);
-            }
-            Judgement::Lawful
-        }
-    }
+// What a merge goes by, once all is judged: the union's present size, and the source.
+#[derive(Clone, Copy)]
+pub struct Plan<'a> {
+    pub present: SketchSize,
+    pub source: Judged<'a>,
 }
 
 // Merge: 1, 17 if over 64k, 2, 15, then the source, then 16.
-pub fn judge_merge(
+#[tactic(auto, using(laws::proofs::Choices::choices), unfolding(matrices::specs::Calls::merge_judged, crate::specs::Steps::lent_judged))]
+pub fn judge_merge<'a>(
     state: CpcUnion,
     matrix: &[u64],
     source: Source,
-    window: &[u8],
-    pairs: &[u32],
-) -> Plan
-    ensures { PlannedBy (merge_judged state.lg state.present state.seed matrix.now source.lg source.seed source.coupons window.now pairs.now) source.lg source.coupons result }
+    window: &'a [u8],
+    pairs: &'a [u32],
+) -> Result<Plan<'a>, Refusal>
+    ensures told { told_plain result ≡ merge_judged state.lg state.present state.seed matrix.now source.lg source.seed source.coupons window.now pairs.now }
+    ensures given { IfOk result (PlanOf state.present source.lg source.coupons window.now pairs.now) }
 {
-    match judge_lent(
-        state.lg,
-        matrix.len(),
-        source.lg,
-        source.coupons,
-        window.len(),
-    ) {
-        Plan::Refused(why) => Plan::Refused(why),
-        Plan::Take(shape) => {
-            if !is_lawful(state.lg, state.present, matrix) {
-                return Plan::Refused(Refusal::NotLawful);
-            }
-            match judge_seeds(state.seed, source, shape, window, pairs) {
-                Judgement::Refused(why) => Plan::Refused(why),
-                Judgement::Lawful => Plan::Take(shape),
-            }
-        }
+    let size = SketchSize::of(state.lg)?;
+    let lent = judge_lent(size, matrix.len(), source.lg, source.coupons, window, pairs)?;
+    let union = Matrix {
+        size,
+        words: matrix,
+    };
+    let present = judge_union(union, state.present)?;
+    let judged = lent.judge()?;
+    let differ = state.seed != source.seed;
+    if differ {
+        return Err(Refusal::SeedsDiffer);
     }
+    Ok(Plan {
+        present,
+        source: judged,
+    })
 }

@@ -1,55 +1,50 @@
 -- `books::check_table` meets its contract. Assumes nothing.
-use mathlib.Core.Path.{◌≡◌, sym, ap, ◌∙◌}
-use mathlib.Core.Bool.{true, false, ◌&&◌}
-use borrow.Author.Tests.{not-true, not-false}
+use borrow.Author.Rules.{rules}
+use borrow.Author.Tests.{eq-eqb}
+use mathlib.Core.Path.{◌≡◌, sym, ap₂, subst, ◌∙◌}
+use mathlib.Core.Bool.{false, true, ◌&&◌}
+use mathlib.Core.List.{[]}
 use lib.ListN.{length}
 use Rattle.laws.proofs.Truths.{and_left}
-use Rattle.books.specs.Book.{first_misshapen, one_symbol_each}
+use Rattle.refusals.specs.Outcome.{refused, accepted}
+use Rattle.refusals.specs.Told.{told}
+use Rattle.books.specs.Book.{one_symbol_each}
 use Rattle.books.specs.Table.{is_table_of}
-use Rattle.books.specs.Told.{told_check}
-use Rattle.books.specs.Steps.{taken}
-use Rattle.books.proofs.Shaping.{all_shaped}
-use Rattle.books.proofs.Verdicts.{fit, fit_both, check_fit, first_refused, first_accepted, shaped_judged}
-use Rattle.books.proofs.check_table.Goals.{Else-not-right_lengths, In-Passes}
+use Rattle.books.specs.Calls.{judged, check_table_of}
+use Rattle.books.specs.Steps.{first_judged}
+use Rattle.books.proofs.Verdicts.{sized_of, fit, check_fit, first_refused, first_accepted, shaped_judged}
+use Rattle.books.proofs.check_table.Goals.{In-Ok}
 use Rattle.books.proofs.check_table.Goals as goal
 
-fits : (c : Else-not-right_lengths) → fit c.args.book.now c.args.table.now ≡ true
-fits c = sym c.right_lengths.ensures ∙ not-false c.right_lengths.result c.if-not-right_lengths.false-raw
+-- both lengths are right
+fits : (c : In-Ok) → fit c.args.book.now c.args.table.now ≡ true
+fits c =
+    let long : length c.args.table.now ≡ 4096 = search rules in
+    ap₂ ◌&&◌ (sized_of c.args.book.now c.in_ok-sized.ensures.told) (eq-eqb _ _ long)
 
--- past the shapes and the sum
-first : (c : In-Passes) → (first_misshapen c.args.book.now ≡ length c.args.book.now)
-    × (taken c.args.book.now ≡ 4096)
-first c = first_accepted c.args.book.now
-    (sym (ap told_check c.in-Passes.is) ∙ c.judge_shapes.ensures)
+pub returns-in_err-judge_shapes : goal.returns-in_err-judge_shapes
+returns-in_err-judge_shapes c =
+    let b = c.args.book.now in
+    let t = c.args.table.now in
+    let why = c.in_err-judge_shapes.field-0.0 in
+    let same : told why ≡ check_table_of b t =
+    first_refused b _ why (and_left (one_symbol_each b) (is_table_of b t)) (subst (λ b. told why ≡ first_judged b) c.in_ok-sized.ensures.same c.in_err-judge_shapes.ensures.told)
+    ∙ sym (check_fit b t true (fits (goal.at.returns-in_err-judge_shapes c).In-Ok)) in
+    search rules
 
-pub returns-then-not-right_lengths : goal.returns-then-not-right_lengths
-returns-then-not-right_lengths c = let a = c.args in
-    let call = c.right_lengths in
-    sym (check_fit a.book.now a.table.now false (sym call.ensures ∙ not-true call.result c.if-not-right_lengths.true-raw))
+pub returns-then-not-is_table : goal.returns-then-not-is_table
+returns-then-not-is_table c =
+    let b = c.args.book.now in
+    let t = c.args.table.now in
+    let first = first_accepted b (subst (λ b. accepted [] ≡ first_judged b) c.in_ok-sized.ensures.same c.in_ok-judge_shapes.ensures.told) in
+    let no : (one_symbol_each b && is_table_of b t) ≡ false = search rules in
+    let same : judged b (one_symbol_each b && is_table_of b t) ≡ refused 3 0 = shaped_judged b _ false first.0 no in
+    sym (check_fit b t true (fits (goal.at.returns-then-not-is_table c).In-Ok) ∙ same)
 
-pub judge_shapes-requires : goal.judge_shapes-requires
-judge_shapes-requires c = let a = c.args in
-    (fit_both a.book.now a.table.now (fits (goal.at.judge_shapes-requires c).Else-not-right_lengths)).1
-
-pub is_table-requires : goal.is_table-requires
-is_table-requires c = let a = c.args in
-    let f = first (goal.at.is_table-requires c).In-Passes in
-    let both = fit_both a.book.now a.table.now (fits (goal.at.is_table-requires c).Else-not-right_lengths) in
-    (both.1, all_shaped a.book.now f.0, f.1, both.2)
-
-pub returns-in-Refused : goal.returns-in-Refused
-returns-in-Refused c = let a = c.args in
-    let b = a.book.now in
-    let t = a.table.now in
-    first_refused b (one_symbol_each b && is_table_of b t) c.in-Refused.why
-    (and_left (one_symbol_each b) (is_table_of b t))
-    (sym (ap told_check c.in-Refused.is) ∙ c.judge_shapes.ensures)
-    ∙ sym (check_fit b t true (fits (goal.at.returns-in-Refused c).Else-not-right_lengths))
-
-pub returns-in-Passes : goal.returns-in-Passes
-returns-in-Passes c = let a = c.args in
-    let b = a.book.now in
-    let t = a.table.now in
-    c.verdict.ensures
-    ∙ sym (check_fit b t true (fits (goal.at.returns-in-Passes c).Else-not-right_lengths) ∙ shaped_judged b (one_symbol_each b && is_table_of b t) c.is_table.result (first (goal.at.returns-in-Passes c).In-Passes).0
-    (sym c.is_table.ensures))
+pub returns : goal.returns
+returns c =
+    let b = c.args.book.now in
+    let t = c.args.table.now in
+    let first = first_accepted b (subst (λ b. accepted [] ≡ first_judged b) c.in_ok-sized.ensures.same c.in_ok-judge_shapes.ensures.told) in
+    let yes : (one_symbol_each b && is_table_of b t) ≡ true = search rules in
+    sym (check_fit b t true (fits (goal.at.returns c).In-Ok) ∙ shaped_judged b _ true first.0 yes)

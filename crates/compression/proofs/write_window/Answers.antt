@@ -1,30 +1,42 @@
 -- `compression::write_window` meets its contract. Assumes nothing.
-use mathlib.Core.Path.{◌≡◌, sym, ap, ◌∙◌}
-use mathlib.Core.List.{[]}
-use Rattle.refusals.specs.Outcome.{accepted}
-use Rattle.books.specs.Told.{told_check}
-use Rattle.streams.specs.Written.{window_codes, window_bits}
-use Rattle.streams.specs.Calls.{write_window_of}
-use Rattle.compression.specs.Writing.{window_judged}
-use Rattle.compression.proofs.WrittenCalls.{window_taken, window_chain, call_refused, call_judged}
-use Rattle.compression.proofs.write_window.Goals.{In-Passes}
+use native.Mathlib.Omega.{arith}
+use mathlib.Core.Path.{ap, ◌∙◌}
+use Prim.Native.Nat.{ℕ, ◌%◌}
+use borrow.Author.Rules.{rules}
+use Rattle.refusals.specs.Told.{told}
+use Rattle.numbers.proofs.RowsTold.{RowsAt, rows_given}
+use Rattle.compression.proofs.WrittenCalls.{WindowCalled, even_rows, window_outside, window_other, window_wrong, window_called}
+use Rattle.compression.proofs.write_window.Goals.{In_ok-size}
 use Rattle.compression.proofs.write_window.Goals as goal
 
-judged : (c : In-Passes) → window_judged c.args.book.now c.args.lg c.args.window.now ≡ accepted []
-judged c = sym (sym (ap told_check c.in-Passes.is) ∙ c.judge_lent.ensures)
+-- what is known of the size
+sized : (c : In_ok-size) → RowsAt c.args.lg c.in_ok-size.size.k
+sized c = rows_given c.args.lg c.in_ok-size.size.k c.in_ok-size.ensures.rows
 
-pub write_judged-requires : goal.write_judged-requires
-write_judged-requires c = let a = c.args in
-    window_taken a.book.now a.lg a.window.now (judged (goal.at.write_judged-requires c).In-Passes)
+pub returns-in_err-size : goal.returns-in_err-size
+returns-in_err-size c = let a = c.args in
+    let why = c.in_err-size.field-0.0 in
+    let outside = c.in_err-size.ensures.refused in
+    let is : WindowCalled a.book.now a.lg a.window.now a.out.now (told why) a.out.now =
+    window_outside a.book.now a.lg a.window.now a.out.now why outside.1 (ap told outside.0) in
+    search rules
 
-pub returns-in-Refused : goal.returns-in-Refused
-returns-in-Refused c = let a = c.args in
-    call_refused (write_window_of a.book.now a.lg a.window.now a.out.now) (window_judged a.book.now a.lg a.window.now)
-    (window_codes a.book.now a.window.now) (window_bits a.book.now a.window.now) a.out.now (window_chain a.book.now a.lg a.window.now a.out.now)
-    c.in-Refused.why (sym (ap told_check c.in-Refused.is) ∙ c.judge_lent.ensures)
+pub returns-then-window-size : goal.returns-then-window-size
+returns-then-window-size c = let a = c.args in
+    window_other a.book.now a.lg a.window.now a.out.now _ (sized (goal.at.returns-then-window-size c).In_ok-size) c.if-window-size.true
 
-pub returns-in-Passes : goal.returns-in-Passes
-returns-in-Passes c = let a = c.args in
-    call_judged (write_window_of a.book.now a.lg a.window.now a.out.now) (window_judged a.book.now a.lg a.window.now)
-    (window_codes a.book.now a.window.now) (window_bits a.book.now a.window.now) a.out.now (window_chain a.book.now a.lg a.window.now a.out.now)
-    c.write_judged.new.out c.write_judged.result (judged (goal.at.returns-in-Passes c).In-Passes) c.write_judged.ensures
+pub returns-in_err-book : goal.returns-in_err-book
+returns-in_err-book c = let a = c.args in
+    let why = c.in_err-book.field-0.0 in
+    let is : WindowCalled a.book.now a.lg a.window.now a.out.now (told why) a.out.now =
+    window_wrong a.book.now a.lg a.window.now a.out.now _ (sized (goal.at.returns-in_err-book c).In_ok-size) c.if-window-size.false why c.in_err-book.ensures.told in
+    search rules
+
+pub invariant_of-window : goal.invariant_of-window
+invariant_of-window c = let at = sized (goal.at.invariant_of-window c).In_ok-size in
+    record { even = ap (λ (x : ℕ). x % 2) c.if-window-size.false ∙ even_rows at; few = omega (arith, c.if-window-size.false, at.most) }
+
+pub returns : goal.returns
+returns c = let a = c.args in
+    window_called a.book.now a.lg a.window.now a.out.now _ (sized (goal.at.returns c).In_ok-size) c.if-window-size.false
+    c.in_ok-book.book.entries.now c.write.new.out c.write.result c.in_ok-book.ensures.same c.in_ok-book.ensures.told c.write.ensures

@@ -1,30 +1,31 @@
 -- `pair_table::clear` meets its contract. Assumes nothing.
-use mathlib.Core.Path.{◌≡◌, refl}
-use Rattle.tables.specs.Calls.{table_judged, clear_of, record_of}
-use Rattle.pair_table.proofs.Judging.{judged_refused, judged_passes}
+use mathlib.Core.Path.{◌≡◌, sym, ap, ◌∙◌}
+use Rattle.std.proofs.lemmas.Result.{err_from_is_err_and}
+use Rattle.refusals.specs.Outcome.{Outcome, accepted, and_then}
+use Rattle.tables.specs.Calls.{clear_of, record_of}
+use Rattle.pair_table.specs.Told.{record_values}
 use Rattle.pair_table.proofs.Called.{table_refused, table_made}
 use Rattle.pair_table.proofs.clear.Goals as goal
 
-pub returns-in-Refused : goal.returns-in-Refused
+pub returns-in_err-shape : goal.returns-in_err-shape
 unfolding clear_of
-returns-in-Refused c = let a = c.args in
+returns-in_err-shape c = let p = err_from_is_err_and c.from_residual.result c.from_residual.ensures.1 in
+    let a = c.args in
     let t = a.table in
-    let s = a.region.now in
-    let e = a.spare.now in
-    let whole = clear_of s e t.lg t.valid t.items in
     let more = record_of t.lg t.valid 0 in
-    let j = c.judge_table in
-    table_refused whole more s e c.in-Refused.why
-    (judged_refused j.result c.in-Refused.why whole (table_judged s e t.lg t.valid t.items) more c.in-Refused.is j.ensures refl)
+    rw (p.1, p.2) (table_refused (clear_of a.region.now a.spare.now t.lg t.valid t.items) more a.region.now a.spare.now _ (ap (λ (o : Outcome). and_then o more) (sym c.in_err-shape.ensures.says)))
 
-pub returns-in-Passes : goal.returns-in-Passes
+pub returns : goal.returns
 unfolding clear_of
-returns-in-Passes c = let a = c.args in
+returns c = let a = c.args in
     let t = a.table in
-    let s = a.region.now in
-    let e = a.spare.now in
-    let whole = clear_of s e t.lg t.valid t.items in
     let more = record_of t.lg t.valid 0 in
-    let j = c.judge_table in
-    let is : whole ≡ more = judged_passes j.result whole (table_judged s e t.lg t.valid t.items) more c.in-Passes.is j.ensures refl in
-    table_made whole more s e t.lg t.valid _ _ is c.wipe.ensures c.wipe-in-Passes.ensures
+    let whole = clear_of a.region.now a.spare.now t.lg t.valid t.items in
+    let is : whole ≡ more = ap (λ (o : Outcome). and_then o more) (sym c.in_ok-shape.ensures.says) in
+    let same = c.in_ok-shape.ensures.same in
+    let w = c.empty_table in
+    let lg : w.result.lg ≡ t.lg = w.ensures.record.0 ∙ same.1 in
+    let valid : w.result.valid ≡ t.valid = w.ensures.record.1 ∙ same.2 in
+    let told : accepted (record_values w.result) ≡ more = cc in
+    let made = table_made whole more a.region.now a.spare.now t.lg t.valid _ _ is w.ensures.region w.ensures.spare in
+    (told ∙ made.0, made.1, made.2)

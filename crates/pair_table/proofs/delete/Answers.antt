@@ -1,46 +1,38 @@
 -- `pair_table::delete` meets its contract. Assumes nothing.
 use mathlib.Core.Path.{◌≡◌, sym, ap, ◌∙◌}
-use mathlib.Core.List.{[]}
-use Rattle.refusals.specs.Outcome.{Outcome, accepted, and_then}
-use Rattle.refusals.specs.Told.{told}
+use Rattle.std.proofs.lemmas.Result.{err_from_is_err_and}
+use Rattle.refusals.specs.Outcome.{Outcome, and_then}
 use Rattle.tables.specs.Changes.{deleted}
-use Rattle.tables.specs.Calls.{table_judged, item_judged, delete_of}
-use Rattle.pair_table.specs.Told.{told_verdict}
+use Rattle.tables.specs.Calls.{delete_of}
 use Rattle.pair_table.specs.Steps.{delete_on}
-use Rattle.pair_table.proofs.Judging.{judged_refused, call_passed}
+use Rattle.pair_table.proofs.Passing.{call_passed}
 use Rattle.pair_table.proofs.Called.{change_refused, change_done, delete_chain}
-use Rattle.pair_table.proofs.delete.Goals.{In-Passes}
 use Rattle.pair_table.proofs.delete.Goals as goal
 
-judged : (c : In-Passes) → and_then (table_judged c.args.region.now c.args.spare.now c.args.table.lg c.args.table.valid c.args.table.items) (item_judged c.args.table.valid c.args.item 0)
-    ≡ accepted []
-judged c = sym (sym (ap told_verdict c.in-Passes.is) ∙ c.judge_call.ensures)
-
-pub delete_judged-requires : goal.delete_judged-requires
-delete_judged-requires c = let a = c.args in
+pub delete-requires : goal.delete-requires
+delete-requires c = let a = c.args in
     let t = a.table in
-    let w = call_passed a.region.now a.spare.now t.lg t.valid t.items a.item (judged (goal.at.delete_judged-requires c).In-Passes) in
-    record { lawful = (w.0.1, w.0.0); item_bound = w.1 }
+    let same = c.in_ok-judge_call.ensures.same in
+    let w = call_passed a.region.now a.spare.now t.lg t.valid t.items a.item (sym c.in_ok-judge_call.ensures.says) in
+    rw (same.0, same.1) (w.0.1, w.0.0)
 
-pub returns-in-Refused : goal.returns-in-Refused
-returns-in-Refused c = let a = c.args in
+pub returns-in_err-judge_call : goal.returns-in_err-judge_call
+returns-in_err-judge_call c = let p = err_from_is_err_and c.from_residual.result c.from_residual.ensures.1 in
+    let a = c.args in
     let t = a.table in
     let s = a.region.now in
     let e = a.spare.now in
     let more = delete_on s t.lg t.valid t.items a.item in
-    let whole = delete_of s e t.lg t.valid t.items a.item in
-    let j = c.judge_call in
-    let chain : whole ≡ and_then (told c.in-Refused.why) more =
-    judged_refused j.result c.in-Refused.why whole (and_then (table_judged s e t.lg t.valid t.items) (item_judged t.valid a.item 0)) more c.in-Refused.is j.ensures
-    (delete_chain s e t.lg t.valid t.items a.item) in
-    change_refused whole more s e (deleted s t.lg t.valid t.items a.item) c.in-Refused.why chain
+    rw (p.1, p.2) (change_refused (delete_of s e t.lg t.valid t.items a.item) more s e (deleted s t.lg t.valid t.items a.item) _
+    (delete_chain s e t.lg t.valid t.items a.item ∙ ap (λ (o : Outcome). and_then o more) (sym c.in_err-judge_call.ensures.says)))
 
-pub returns-in-Passes : goal.returns-in-Passes
-returns-in-Passes c = let a = c.args in
+pub returns : goal.returns
+returns c = let a = c.args in
     let t = a.table in
     let s = a.region.now in
     let e = a.spare.now in
     let more = delete_on s t.lg t.valid t.items a.item in
-    let r = c.delete_judged in
-    let is : delete_of s e t.lg t.valid t.items a.item ≡ more = delete_chain s e t.lg t.valid t.items a.item ∙ ap (λ (o : Outcome). and_then o more) (judged (goal.at.returns-in-Passes c).In-Passes) in
-    change_done (delete_of s e t.lg t.valid t.items a.item) more s e (deleted s t.lg t.valid t.items a.item) r.new.region r.new.spare r.result is r.ensures
+    let r = c.delete in
+    let same = c.in_ok-judge_call.ensures.same in
+    let is : delete_of s e t.lg t.valid t.items a.item ≡ more = delete_chain s e t.lg t.valid t.items a.item ∙ ap (λ (o : Outcome). and_then o more) (sym c.in_ok-judge_call.ensures.says) in
+    change_done (delete_of s e t.lg t.valid t.items a.item) more s e (deleted s t.lg t.valid t.items a.item) r.new.region r.new.spare r.result is (rw (same.0, same.1, same.2) at r.ensures)

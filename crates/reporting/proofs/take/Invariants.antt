@@ -1,12 +1,8 @@
--- `reporting::take`: what its loops keep true, and why they end. Assumes nothing.
-use Prim.Native.Nat.{◌-◌}
+-- `reporting::take`: what its loop keeps true. Assumes nothing.
 use mathlib.Core.Path.{◌≡◌}
-use lib.ListN.{length, drop}
+use lib.ListN.{drop}
 use Rattle.reporting.specs.Machine.{taken_of}
 use Rattle.reporting.proofs.take.Given as goal
 
-abbrev pub invariant-loop-i : goal.invariant-loop-i
-invariant-loop-i l = (length l.pairs ≡ length l.initial.pairs) × (taken_of l.after (drop l.i l.part) l.pairs ≡ taken_of l.initial.after l.part l.initial.pairs)
-
-abbrev pub decreases-loop-i : goal.decreases-loop-i
-decreases-loop-i l = length l.part - l.i
+abbrev pub invariant-loop-byte : goal.invariant-loop-byte
+invariant-loop-byte l = (taken_of l.after (drop l.byte-index l.part) l.pairs ≡ taken_of l.initial.after l.part l.initial.pairs)

@@ -1,58 +1,35 @@
 -- `unions::expand` meets its contract. Assumes nothing.
-use mathlib.Core.Path.{◌≡◌, sym, ap, ap₂, ◌∙◌, subst}
-use mathlib.Core.Bool.{Bool}
+use mathlib.Core.Path.{◌≡◌, ◌∙◌}
 use mathlib.Core.List.{[]}
-use Prim.Native.Nat.{ℕ, ◌^◌}
-use native.Mathlib.Omega.{arith}
-use Rattle.laws.specs.Choose.{choose}
-use Rattle.refusals.specs.Outcome.{Outcome, accepted, if_accepted}
-use Rattle.matrices.specs.Calls.{expand_of}
+use Prim.Native.Nat.{◌^◌}
+use Rattle.std.proofs.Common.{rules}
+use Rattle.refusals.specs.Outcome.{accepted}
+use Rattle.matrices.specs.Calls.{expand_of, expanded_matrix}
 use Rattle.matrices.specs.Matrix.{matrix_of}
-use Rattle.matrices.specs.Source.{source_set, held, columns_judged}
-use Rattle.matrices.proofs.Answered.{Expanded, expand_accepted}
-use Rattle.matrices.proofs.Judged.{judged_sorted, judged_row}
-use Rattle.unions.specs.Steps.{PlannedBy, ShapeOf}
+use Rattle.matrices.specs.Source.{held}
 use Rattle.unions.proofs.Answered.{kept_as}
+use Rattle.unions.proofs.JudgedTold.{to_judged, of_judged, fitting, filled}
 use Rattle.unions.proofs.PlanSteps.{expand_chain}
-use Rattle.unions.proofs.expand.Goals.{After-judge_expansion, In-Take}
+use Rattle.unions.proofs.expand.Goals.{In_ok-source}
 use Rattle.unions.proofs.expand.Goals as goal
 
-judged : (c : After-judge_expansion) → PlannedBy ((expand_of c.args.lg c.args.coupons c.args.window.now c.args.pairs.now c.args.matrix.now)) c.args.lg c.args.coupons c.judge_expansion.result
-judged c = let a = c.args in
-    subst (λ (o : Outcome). PlannedBy o a.lg a.coupons c.judge_expansion.result) (expand_chain a.lg a.coupons a.window.now a.pairs.now a.matrix.now)
-    c.judge_expansion.ensures
+-- the parts are accepted
+accepts : (c : In_ok-source) → accepted [] ≡ expand_of c.in_ok-source.source.shape.size.lg c.in_ok-source.source.shape.coupons c.in_ok-source.source.window.now c.in_ok-source.source.pairs.now c.args.matrix.now
+accepts c = let a = c.args in
+    to_judged a.lg a.coupons a.window.now a.pairs.now c.in_ok-source.source c.in_ok-source.ensures.given (λ lg n window ps. accepted [] ≡ expand_of lg n window ps a.matrix.now)
+    (c.in_ok-source.ensures.told ∙ expand_chain a.lg a.coupons a.window.now a.pairs.now a.matrix.now)
 
-planned : (c : In-Take) → ((expand_of c.args.lg c.args.coupons c.args.window.now c.args.pairs.now c.args.matrix.now) ≡ accepted []) × ShapeOf c.args.lg c.args.coupons c.in-Take.shape
-planned c = subst (PlannedBy ((expand_of c.args.lg c.args.coupons c.args.window.now c.args.pairs.now c.args.matrix.now)) c.args.lg c.args.coupons) c.in-Take.is ((let judged : PlannedBy ((expand_of c.args.lg c.args.coupons c.args.window.now c.args.pairs.now c.args.matrix.now)) c.args.lg c.args.coupons c.judge_expansion.result = let a = c.args in subst (λ (o : Outcome). PlannedBy o a.lg a.coupons c.judge_expansion.result) (expand_chain a.lg a.coupons a.window.now a.pairs.now a.matrix.now) c.judge_expansion.ensures in judged))
-
-found : (c : In-Take) → Expanded c.args.lg c.args.coupons c.args.window.now c.args.pairs.now c.args.matrix.now
-found c = let a = c.args in expand_accepted a.lg a.coupons a.window.now a.pairs.now a.matrix.now [] (planned c).0
+pub returns-in_err-source : goal.returns-in_err-source
+returns-in_err-source c = let a = c.args in
+    let e = c.in_err-source.ensures.told ∙ expand_chain a.lg a.coupons a.window.now a.pairs.now a.matrix.now in
+    let k = kept_as c.in_err-source.field-0.0 (matrix_of (2 ^ a.lg) (held (2 ^ a.lg) a.coupons a.window.now a.pairs.now)) a.matrix.now e in
+    search rules
 
 pub fill-requires : goal.fill-requires
-fill-requires c = let a = c.args in
-    let p = (planned (goal.at.fill-requires c).In-Take).1 in
-    let f = found (goal.at.fill-requires c).In-Take in
-    record {
-      small = p.small;
-      long = f.bytes ∙ ap₂ (λ (b : Bool) (k : ℕ). choose b k 0) (sym p.wide) (sym f.rows);
-      sorted = judged_sorted (2 ^ a.lg) a.pairs.now f.source.pairs;
-      rows = record { row = λ i h. omega (arith, judged_row (2 ^ a.lg) a.pairs.now f.source.pairs i h, f.rows) };
-      apart = λ w. ap (λ (o : ℕ). columns_judged o 0 a.pairs.now) p.offset ∙ (f.source.places (sym p.wide ∙ w)).1;
-    }
+fill-requires c = fitting c.in_ok-source.source c.args.matrix.now (accepts (goal.at.fill-requires c).In_ok-source)
 
-pub returns-in-Refused : goal.returns-in-Refused
-returns-in-Refused c = let e = subst (PlannedBy ((expand_of c.args.lg c.args.coupons c.args.window.now c.args.pairs.now c.args.matrix.now)) c.args.lg c.args.coupons) c.in-Refused.is (judged (goal.at.returns-in-Refused c).After-judge_expansion) in
-    (e, kept_as c.in-Refused.why _ c.args.matrix.now e)
-
-pub returns-in-Take : goal.returns-in-Take
-unfolding held
-returns-in-Take c = let a = c.args in
-    let p = planned (goal.at.returns-in-Take c).In-Take in
-    let f = found (goal.at.returns-in-Take c).In-Take in
-    let k = 2 ^ a.lg in
-    let set = matrix_of k (held k a.coupons a.window.now a.pairs.now) in (
-      sym p.0,
-      c.fill.ensures
-          ∙ ap₂ (λ (n : ℕ) (f : ℕ → ℕ → Bool). matrix_of n f) f.rows (ap₂ (λ (b : Bool) (o : ℕ). source_set b o a.window.now a.pairs.now) p.1.wide p.1.offset)
-          ∙ sym (ap (λ (o : Outcome). if_accepted o set a.matrix.now) p.0),
-    )
+pub returns : goal.returns
+returns c = let a = c.args in
+    of_judged a.lg a.coupons a.window.now a.pairs.now c.in_ok-source.source c.in_ok-source.ensures.given
+    (λ lg n window ps. (accepted [] ≡ expand_of lg n window ps a.matrix.now) × (c.fill.new.matrix ≡ expanded_matrix lg n window ps a.matrix.now))
+    (filled c.in_ok-source.source a.matrix.now (accepts (goal.at.returns c).In_ok-source) c.fill.new.matrix c.fill.ensures)

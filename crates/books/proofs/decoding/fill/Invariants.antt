@@ -1,11 +1,6 @@
--- `books::decoding::fill`: what its loops keep true, and why they end. Assumes nothing.
-use Prim.Native.Nat.{◌-◌}
-use lib.ListN.{length}
+-- `books::decoding::fill`: what its loop keeps true. Assumes nothing.
 use Rattle.books.proofs.Filling.{Filling}
 use Rattle.books.proofs.decoding.fill.Given as goal
 
 abbrev pub invariant-loop-x : goal.invariant-loop-x
-invariant-loop-x l = Filling l.book l.table l.x
-
-abbrev pub decreases-loop-x : goal.decreases-loop-x
-decreases-loop-x l = length l.book - l.x
+invariant-loop-x l = Filling l.book.entries.now l.table l.x

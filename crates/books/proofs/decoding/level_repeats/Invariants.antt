@@ -1,10 +1,8 @@
--- `books::decoding::level_repeats`: what its loops keep true, and why they end. Assumes nothing.
-use Prim.Native.Nat.{◌-◌}
-use Rattle.books.proofs.Repeating.{Counted}
+-- `books::decoding::level_repeats`: what its loop keeps true. Assumes nothing.
+use Rattle.std.specs.Iterator.Adapters.{zip_first, zip_second}
+use Rattle.std.specs.Slice.Iter.{iter_rest}
+use Rattle.books.proofs.Repeating.{Halved}
 use Rattle.books.proofs.decoding.level_repeats.Given as goal
 
-abbrev pub invariant-loop-m : goal.invariant-loop-m
-invariant-loop-m l = Counted l.table l.half l.limit l.count l.m
-
-abbrev pub decreases-loop-m : goal.decreases-loop-m
-decreases-loop-m l = l.half - l.m
+abbrev pub invariant-loop-a : goal.invariant-loop-a
+invariant-loop-a l = Halved l.table l.half l.limit l.count (iter_rest (zip_first l.a-iterator)) (iter_rest (zip_second l.a-iterator))

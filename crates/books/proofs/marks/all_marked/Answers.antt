@@ -1,16 +1,16 @@
 -- `books::marks::all_marked` meets its contract. Assumes nothing.
 use native.Mathlib.Omega.{arith}
-use Rattle.books.proofs.Spreading.{full_turn, full_stop}
+use Rattle.std.proofs.Common.{◌≡◌, ◌≢◌, ◌∙◌, ◌-◌, ◌^◌, drop, length, rules, tests}
+use Rattle.std.proofs.lemmas.Iterator.{cases_from_all, YieldsList-from_slice}
+use Rattle.std.proofs.lemmas.List.{take_all, length-drop}
+use Rattle.books.proofs.Spreading.{all_full}
 use Rattle.books.proofs.marks.all_marked.Goals as goal
 
-pub loop-w-init : goal.loop-w-init
-loop-w-init c = (omega arith, omega arith, λ n l. absurd (omega arith))
-
-pub returns-then-marks-w : goal.returns-then-marks-w
-returns-then-marks-w c = full_stop c.args.marks.now c.loop-w.w c.loop-w.invariant.0 (omega arith) (c.shared_slice_known-1.given c.loop-w.w).fits c.if-marks-w.true
-
-pub loop-w-preserved : goal.loop-w-preserved
-loop-w-preserved c = (omega arith, omega arith, full_turn c.args.marks.now c.loop-w.w c.if-marks-w.false c.loop-w.invariant.0 c.loop-w.invariant.2)
-
 pub returns : goal.returns
-returns c = λ n l. c.loop-w.invariant.2 n (omega arith)
+returns c =
+    let marks = c.args.marks.now in
+    let size : length marks ≡ 128 = search rules in
+    let tail = c.iter.ensures.rest ∙ take_all 64 (drop 64 marks) (omega (arith, length-drop 64 marks)) in
+    all_full marks size (search rules) c.all.result
+    (cases_from_all _ _ _ (λ x. x ≡ 2 ^ 64 - 1) (λ x. x ≢ 2 ^ 64 - 1) c.all.ensures.ran (YieldsList-from_slice (drop 64 marks) tail)
+    (λ x q k. search (rules, tests)) (λ x q k. search (rules, tests)))

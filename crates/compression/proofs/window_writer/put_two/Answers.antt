@@ -2,7 +2,7 @@
 use native.Mathlib.Omega.{arith}
 use mathlib.Core.Path.{◌≡◌, subst}
 use Prim.Native.Nat.{ℕ, ◌+◌, ◌*◌, ◌/◌, ◌%◌, ◌^◌}
-use lib.Pow.{shl_exact, pow_mono}
+use lib.Pow.{shl_exact}
 use Rattle.compression.specs.Writing.{PutBy, entry_code}
 use Rattle.compression.proofs.PuttingCodes.{puts_two, total_two}
 use Rattle.compression.proofs.PuttingWindow.{two_small}
@@ -12,11 +12,6 @@ use Rattle.compression.proofs.window_writer.put_two.Goals as goal
 -- the second codeword loses nothing where it is moved to
 moved : (c : Start) → c.args.second % 4096 * 2 ^ (c.args.first / 4096) % 2 ^ 64 ≡ c.args.second % 4096 * 2 ^ (c.args.first / 4096)
 moved c = shl_exact (c.args.second / 4096) (c.args.first / 4096) 64 c.requires.2.fits (omega (arith, c.requires.1.most, c.requires.2.most))
-
-pub overflow_add-first : goal.overflow_add-first
-overflow_add-first c = let a = c.args in
-    let most = pow_mono {i = a.first / 4096 + a.second / 4096} {j = 64} (omega (arith, c.requires.1.most, c.requires.2.most)) in
-    rw (moved (goal.at.overflow_add-first c).Start) (omega (arith, two_small a.first a.second c.requires.1 c.requires.2, most))
 
 pub put-requires : goal.put-requires
 put-requires c = let a = c.args in (

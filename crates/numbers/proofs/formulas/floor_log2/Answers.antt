@@ -29,7 +29,7 @@ loop-power-preserved c = doubled_turn c.loop-power.invariant c.loop-power-test.t
 
 pub returns-then-power-quotient : goal.returns-then-power-quotient
 returns-then-power-quotient c = let e = doubled_met c.loop-power.invariant c.requires.1 c.if-power-quotient.true in
-    (e, omega (arith, log_most c.args.quotient))
+    record { value = e; most = omega (arith, log_most c.args.quotient) }
 
 pub overflow_sub-result : goal.overflow_sub-result
 overflow_sub-result c = omega (arith, past (goal.at.overflow_sub-result c).Else-power-quotient)

@@ -1,31 +1,28 @@
 -- `pair_table::building::build_judged` meets its contract. Assumes nothing.
 use mathlib.Core.Path.{◌≡◌, sym, ap, ◌∙◌}
-use mathlib.Core.List.{[]}
 use Prim.Native.Nat.{ℕ}
-use Rattle.refusals.specs.Outcome.{accepted}
+use Rattle.std.proofs.lemmas.Result.{err_from_is_err_and}
+use lib.ListN.{length}
+use Rattle.tables.specs.Changes.{build_lg}
 use Rattle.tables.specs.Calls.{growth_judged}
-use Rattle.tables.proofs.Says.{can_grow}
-use Rattle.pair_table.specs.Told.{told_verdict}
+use Rattle.tables.proofs.Sizes.{build_fits}
 use Rattle.pair_table.proofs.StoringLists.{growth_refused, growth_done}
-use Rattle.pair_table.proofs.building.build_judged.Goals.{In-Passes}
 use Rattle.pair_table.proofs.building.build_judged.Goals as goal
 
-judged : (c : In-Passes) → growth_judged c.args.region.now c.lg_for-lg.result c.args.v ≡ accepted []
-judged c = sym (sym (ap told_verdict c.in-Passes.is) ∙ c.judge_growth.ensures)
+pub returns-in_err-shape : goal.returns-in_err-shape
+returns-in_err-shape c = let p = err_from_is_err_and c.from_residual.result c.from_residual.ensures.1 in
+    let a = c.args in
+    rw (p.1, p.2) (growth_refused a.region.now a.spare.now a.judged.valid a.judged.list.now _ (c.in_err-shape.ensures.says ∙ ap (λ (lg : ℕ). growth_judged a.region.now lg a.judged.valid) c.lg_for-lg.ensures.0))
 
-pub store_list-requires : goal.store_list-requires
-store_list-requires c = let w = can_grow c.args.region.now c.lg_for-lg.result c.args.v (judged (goal.at.store_list-requires c).In-Passes) in
-    (c.requires, c.lg_for-lg.ensures.0, w.0, w.1, w.2)
+pub invariant_of-store : goal.invariant_of-store
+invariant_of-store c =
+    let g = c.in_ok-shape.ensures.grown in
+    let lg : c.in_ok-shape.shape.lg ≡ build_lg (length c.args.judged.list.now) = g.0 ∙ c.lg_for-lg.ensures.0 in
+    record { fine = rw g.1 c.args.judged.buildable.fine; load = rw lg (build_fits (length c.args.judged.list.now) (rw lg at c.in_ok-shape.shape.lg_most)) }
 
-pub returns-in-Refused : goal.returns-in-Refused
-returns-in-Refused c = let a = c.args in
-    let lg = c.lg_for-lg in
-    growth_refused a.region.now a.spare.now a.v a.list.now c.in-Refused.why
-    (sym (ap told_verdict c.in-Refused.is) ∙ c.judge_growth.ensures ∙ ap (λ (n : ℕ). growth_judged a.region.now n a.v) lg.ensures.0)
-
-pub returns-in-Passes : goal.returns-in-Passes
-returns-in-Passes c = let a = c.args in
-    let r = c.store_list in
-    let lg = c.lg_for-lg in
-    growth_done a.region.now a.spare.now a.v a.list.now r.new.region r.new.spare r.result
-    (ap (λ (n : ℕ). growth_judged a.region.now n a.v) (sym lg.ensures.0) ∙ judged (goal.at.returns-in-Passes c).In-Passes) r.ensures
+pub returns : goal.returns
+returns c = let a = c.args in
+    let g = c.in_ok-shape.ensures in
+    let r = c.store in
+    growth_done a.region.now a.spare.now a.judged.valid a.judged.list.now r.new.region r.new.spare r.result
+    (ap (λ (lg : ℕ). growth_judged a.region.now lg a.judged.valid) (sym c.lg_for-lg.ensures.0) ∙ sym g.says) (rw g.grown.1 at r.ensures)

@@ -1,11 +1,6 @@
--- `pair_table::building::highest`: what its loops keep true, and why they end. Assumes nothing.
-use Prim.Native.Nat.{◌-◌, ◌≤◌}
-use lib.ListN.{length}
+-- `pair_table::building::highest`: what its loop keeps true. Assumes nothing.
 use Rattle.pair_table.specs.Steps.{NoneAbove}
 use Rattle.pair_table.proofs.building.highest.Given as goal
 
-abbrev pub invariant-loop-i : goal.invariant-loop-i
-invariant-loop-i l = (l.i ≤ length l.list) × NoneAbove l.list l.i l.top
-
-abbrev pub decreases-loop-i : goal.decreases-loop-i
-decreases-loop-i l = length l.list - l.i
+abbrev pub invariant-loop-x : goal.invariant-loop-x
+invariant-loop-x l = NoneAbove l.list l.x-index l.top

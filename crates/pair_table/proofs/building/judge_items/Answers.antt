@@ -1,13 +1,19 @@
 -- `pair_table::building::judge_items` meets its contract. Assumes nothing.
-use mathlib.Core.Path.{sym, ap, ◌∙◌}
+use mathlib.Core.Path.{◌≡◌, refl, ap, ◌∙◌}
+use mathlib.Core.Bool.{not, true}
+use mathlib.Core.List.{[]}
 use native.Mathlib.Omega.{arith}
-use Rattle.pair_table.specs.Told.{told_verdict}
+use Rattle.std.specs.Prelude.{Result, Ok, Err, ⊤, is_ok}
+use Rattle.refusals.specs.Outcome.{accepted}
+use Rattle.refusals.specs.Told.{told_plain}
+use Rattle.refusals.specs.declared.Refusal.{Refusal}
 use Rattle.pair_table.proofs.RisingLists.{highest_fine}
 use Rattle.pair_table.proofs.building.judge_items.Goals as goal
 
-pub returns-in-Refused : goal.returns-in-Refused
-returns-in-Refused c = c.first_bad.ensures
+passed : (r : Result ⊤ Refusal) → is_ok r ≡ true → accepted [] ≡ told_plain r
+passed (Ok _) e = refl
+passed (Err why) e = cc
 
 pub returns : goal.returns
 returns c = let a = c.args in
-    highest_fine a.v c.highest-top.result a.list.now c.highest-top.ensures (omega arith) (sym (ap told_verdict c.in_default.is) ∙ c.judge_item.ensures)
+    highest_fine a.valid c.highest.result a.list.now c.highest.ensures (omega arith) (passed c.judge_item.result (c.is_err.ensures.negation ∙ ap not c.if-is_err.false) ∙ c.judge_item.ensures)

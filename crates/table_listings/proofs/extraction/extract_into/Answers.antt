@@ -1,21 +1,19 @@
 -- `table_listings::extraction::extract_into` meets its contract. Assumes nothing.
-use mathlib.Core.Path.{ap, ◌∙◌}
-use mathlib.Core.List.{◌++◌}
-use Prim.Native.Nat.{ℕ, ◌≤◌}
+use Prim.Native.Nat.{◌^◌}
 use native.Mathlib.Omega.{arith}
-use lib.ListN.{length, take, drop}
-use Rattle.tables.specs.Listings.{extraction}
+use Rattle.tables.proofs.Extract.{extracted}
 use Rattle.tables.proofs.Extraction.{extracted_is}
+use Rattle.table_listings.proofs.Listed.{lawful_table}
 use Rattle.table_listings.proofs.extraction.extract_into.Goals as goal
 
-pub extract_items-requires : goal.extract_items-requires
-extract_items-requires c = let l = c.requires.0 in
-    rw c.size-n.ensures (l.room, omega (arith, l.bits_least), l.bits_most, l.count, c.requires.1)
+pub take_rest-requires : goal.take_rest-requires
+take_rest-requires c = let f = c.take_front-cut.ensures in
+    (f.front.within, omega (arith, f.meet, f.edge, f.long, c.requires, (lawful_table c.args.table).count))
 
 pub returns : goal.returns
-returns c = let a = c.args in
-    let n = c.size-n in
-    let x = c.extract_items in
-    let room : n.result ≤ length a.region.now = rw n.ensures c.requires.0.room in
-    extracted_is a.region.now a.out.now x.new.out n.result a.v a.c x.result x.ensures room
-    ∙ ap (λ (k : ℕ). extraction (take k a.region.now) a.v ++ drop a.c a.out.now) n.ensures
+returns c = let t = c.args.table in
+    let f = c.take_front-cut in
+    let r = c.take_rest in
+    let n = 2 ^ t.shape.lg in
+    extracted_is t.slots.now c.args.out.now r.new.out n t.shape.valid t.items f.result.slot
+    (extracted t.slots.now c.args.out.now f.new.out r.new.out n t.shape.valid t.items _ _ _ r.result f.ensures r.ensures (lawful_table t).count) t.room

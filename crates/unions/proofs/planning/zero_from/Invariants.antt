@@ -1,11 +1,8 @@
 -- `unions::planning::zero_from`: what its loops keep true, and why they end. Assumes nothing.
 use mathlib.Core.Path.{◌≡◌}
-use Prim.Native.Nat.{ℕ, ◌-◌, ◌^◌, ◌≤◌, ◌<◌}
-use lib.ListN.{length, get_or}
+use Prim.Native.Nat.{ℕ, ◌≤◌, ◌<◌}
+use lib.ListN.{get_or}
 use Rattle.unions.proofs.planning.zero_from.Given as goal
 
 abbrev pub invariant-loop-row : goal.invariant-loop-row
-invariant-loop-row l = (2 ^ l.lg ≤ l.row) × ((r : ℕ) → 2 ^ l.lg ≤ r → r < l.row → get_or l.matrix r 0 ≡ 0)
-
-abbrev pub decreases-loop-row : goal.decreases-loop-row
-decreases-loop-row l = length l.matrix - l.row
+invariant-loop-row l = (r : ℕ) → l.fn.size.k ≤ r → r < l.row → get_or l.matrix r 0 ≡ 0

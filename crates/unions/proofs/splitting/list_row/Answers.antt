@@ -1,13 +1,13 @@
 -- `unions::splitting::list_row` meets its contract. Assumes nothing.
-use mathlib.Core.Path.{◌≡◌, sym, subst}
-use Prim.Native.Nat.{ℕ, ◌+◌, ◌*◌, ◌<◌}
+use mathlib.Core.Path.{◌≡◌, sym, ap, subst, ◌∙◌}
+use Prim.Native.Nat.{ℕ, ◌+◌, ◌*◌, ◌^◌, ◌%◌, ◌<◌}
 use native.Mathlib.Omega.{arith}
 use lib.Bits.{bit_xor}
 use lib.Count.{count_trailing_zeros}
 use lib.ListN.{length, set}
 use Rattle.laws.proofs.Shifts.{one_shl}
 use Rattle.laws.proofs.Trailing.{trailing_lt}
-use Rattle.matrices.proofs.ListTurn.{Listed, list_start, list_room, list_less, list_turn, list_end, list_length}
+use Rattle.matrices.proofs.ListTurn.{Listed, list_room, list_less, list_turn, list_end, list_length}
 use Rattle.unions.proofs.splitting.list_row.Goals.{At-loop-rest, In-loop-rest}
 use Rattle.unions.proofs.splitting.list_row.Goals as goal
 
@@ -26,44 +26,21 @@ long : (c : At-loop-rest) → length c.loop-rest.out ≡ length c.args.out.now
 long c = let s = c.args in
     list_length s.row s.w s.n s.out.now c.loop-rest.out c.loop-rest.rest c.loop-rest.i c.loop-rest.invariant
 
-pub loop-rest-init : goal.loop-rest-init
-loop-rest-init c = list_start c.args.row c.args.w c.args.n c.args.out.now c.ranges.w.fits c.requires.1
-
-pub overflow_cast-c : goal.overflow_cast-c
-overflow_cast-c c = omega (arith, low (goal.at.overflow_cast-c c).In-loop-rest)
-
-pub overflow_add-out : goal.overflow_add-out
-overflow_add-out c = omega (arith, low (goal.at.overflow_add-out c).In-loop-rest)
-
-pub overflow_cast-out : goal.overflow_cast-out
-overflow_cast-out c = omega (arith, low (goal.at.overflow_cast-out c).In-loop-rest)
-
-pub offset_bounds-out-i : goal.offset_bounds-out-i
-offset_bounds-out-i c = omega (arith, room (goal.at.offset_bounds-out-i c).In-loop-rest, c.well_formed)
-
 pub bounds-out-i : goal.bounds-out-i
 bounds-out-i c = omega (arith, room (goal.at.bounds-out-i c).In-loop-rest, long (goal.at.bounds-out-i c).At-loop-rest)
-
-pub overflow_shl-rest : goal.overflow_shl-rest
-overflow_shl-rest c = low (goal.at.overflow_shl-rest c).In-loop-rest
-
-pub overflow_add-i : goal.overflow_add-i
-overflow_add-i c = omega (arith, room (goal.at.overflow_add-i c).In-loop-rest, c.well_formed)
 
 pub loop-rest-smaller : goal.loop-rest-smaller
 loop-rest-smaller c = let l = c.loop-rest in
     let s = c.args in
-    rw (one_shl (count_trailing_zeros 64 l.rest) (low (goal.at.loop-rest-smaller c).In-loop-rest)) (list_less s.row s.w s.n s.out.now l.out l.rest l.i l.invariant (pos (goal.at.loop-rest-smaller c).In-loop-rest))
+    rw (ap (λ (x : ℕ). 1 * 2 ^ x % 2 ^ 64) c.from-c.ensures ∙ one_shl (count_trailing_zeros 64 l.rest) (low (goal.at.loop-rest-smaller c).In-loop-rest)) (list_less s.row s.w s.n s.out.now l.out l.rest l.i l.invariant (pos (goal.at.loop-rest-smaller c).In-loop-rest))
 
 pub loop-rest-preserved : goal.loop-rest-preserved
 loop-rest-preserved c = let l = c.loop-rest in
     let s = c.args in
-    subst
+    subst (λ (x : ℕ). Listed s.row s.w s.n s.out.now (set l.out l.i (64 * s.row + x)) (bit_xor l.rest (1 * 2 ^ x % 2 ^ 64)) (l.i + 1)) (sym c.from-c.ensures)
+    (subst
     (λ (x : ℕ). Listed s.row s.w s.n s.out.now (set l.out l.i (64 * s.row + count_trailing_zeros 64 l.rest)) (bit_xor l.rest x) (l.i + 1))
-    (sym (one_shl (count_trailing_zeros 64 l.rest) (low (goal.at.loop-rest-preserved c).In-loop-rest))) (list_turn s.row s.w s.n s.out.now l.out l.rest l.i l.invariant (pos (goal.at.loop-rest-preserved c).In-loop-rest))
-
-pub shape_of-out : goal.shape_of-out
-shape_of-out c = long (goal.at.shape_of-out c).At-loop-rest
+    (sym (one_shl (count_trailing_zeros 64 l.rest) (low (goal.at.loop-rest-preserved c).In-loop-rest))) (list_turn s.row s.w s.n s.out.now l.out l.rest l.i l.invariant (pos (goal.at.loop-rest-preserved c).In-loop-rest)))
 
 pub returns : goal.returns
 returns c = let l = c.loop-rest in

@@ -1,6 +1,7 @@
 -- `unions::words::flip_column` meets its contract. Assumes nothing.
 use mathlib.Core.Path.{◌∙◌, ap}
-use Prim.Native.Nat.{◌^◌}
+use Prim.Native.Nat.{◌^◌, ◌%◌}
+use native.Mathlib.Omega.{arith}
 use lib.Bits.{bit_xor, xor_lt}
 use lib.Pow.{pow-lt}
 use Rattle.laws.specs.Columns.{has, differs}
@@ -11,7 +12,7 @@ use Rattle.unions.proofs.words.flip_column.Goals as goal
 
 pub returns : goal.returns
 returns c = let w = c.args.w in
-    let j = c.args.j in
-    ap (bit_xor w) (one_shl j c.requires)
-    ∙ word_is 64 _ _ (xor_lt 64 w (2 ^ j) c.ranges.w.fits (pow-lt c.requires))
+    let j = c.args.pair % 64 in
+    ap (bit_xor w) (one_shl j (omega arith))
+    ∙ word_is 64 _ _ (xor_lt 64 w (2 ^ j) c.ranges.w.fits (pow-lt {j = 64} (omega arith)))
     (λ d l. has_xor w (2 ^ j) d ∙ ap (differs (has w d)) (has_one j d))

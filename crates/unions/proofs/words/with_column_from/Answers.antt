@@ -2,7 +2,7 @@
 use mathlib.Core.Path.{◌≡◌, sym, ap, ◌∙◌}
 use mathlib.Core.Logic.{⊎_elim}
 use mathlib.Core.Bool.{Bool, false, ◌&&◌, ◌||◌}
-use Prim.Native.Nat.{ℕ, ◌≤◌, ◌<◌}
+use Prim.Native.Nat.{ℕ, ◌≤◌, ◌<◌, ◌%◌}
 use native.Mathlib.Omega.{arith}
 use borrow.Author.Tests.{le-leb, lt-leb, ne_eqb}
 use lib.Dec.{eqb, leb}
@@ -24,10 +24,10 @@ after first j c h =
     ⊎_elim (λ (e : c ≡ j). sym (ap (λ (t : Bool). t && eqb c j) (le-leb first c (omega arith))))
     (λ (n : c ≡ j → ⊥). ne_eqb c j n ∙ sym (ap (λ (t : Bool). leb first c && t) (ne_eqb c j n) ∙ and_false (leb first c))) (same_or_not c j)
 
-pub returns-then-j-first : goal.returns-then-j-first
-returns-then-j-first c = let a = c.args in
-    word_is 64 a.w _ c.ranges.w.fits (λ d l. sym (ap (λ (t : Bool). has a.w d || t) (before a.first a.j d c.if-j-first.true) ∙ or_false (has a.w d)))
+pub returns-then-from-first : goal.returns-then-from-first
+returns-then-from-first c = let a = c.args in
+    word_is 64 a.w _ c.ranges.w.fits (λ d l. sym (ap (λ (t : Bool). has a.w d || t) (before a.first (a.pair % 64) d (omega (arith, c.from.ensures, c.if-from-first.true))) ∙ or_false (has a.w d)))
 
 pub returns : goal.returns
 returns c = let a = c.args in
-    c.with_column.ensures ∙ word_of_same 64 _ _ (λ d l. ap (λ (t : Bool). has a.w d || t) (after a.first a.j d c.if-j-first.false))
+    c.with_column.ensures ∙ word_of_same 64 _ _ (λ d l. ap (λ (t : Bool). has a.w d || t) (after a.first (a.pair % 64) d (omega (arith, c.from.ensures, c.if-from-first.false))))

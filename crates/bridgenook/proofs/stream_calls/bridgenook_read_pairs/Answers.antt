@@ -1,7 +1,0 @@
--- `bridgenook::stream_calls::bridgenook_read_pairs` meets its contract. Assumes nothing.
-use Rattle.bridgenook.proofs.Saying.{says_as}
-use Rattle.bridgenook.proofs.stream_calls.bridgenook_read_pairs.Goals as goal
-
-pub returns : goal.returns
-returns c = let call = c.read_pairs.ensures in
-    (says_as call.0 c.say_read.ensures, call.1)

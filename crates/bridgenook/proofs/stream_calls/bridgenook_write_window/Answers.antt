@@ -1,7 +1,0 @@
--- `bridgenook::stream_calls::bridgenook_write_window` meets its contract. Assumes nothing.
-use Rattle.bridgenook.proofs.Saying.{says_as}
-use Rattle.bridgenook.proofs.stream_calls.bridgenook_write_window.Goals as goal
-
-pub returns : goal.returns
-returns c = let call = c.write_window.ensures in
-    (says_as call.0 c.say_write.ensures, call.1)

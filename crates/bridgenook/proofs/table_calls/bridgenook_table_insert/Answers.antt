@@ -1,7 +1,0 @@
--- `bridgenook::table_calls::bridgenook_table_insert` meets its contract. Assumes nothing.
-use Rattle.bridgenook.proofs.Saying.{says_as}
-use Rattle.bridgenook.proofs.table_calls.bridgenook_table_insert.Goals as goal
-
-pub returns : goal.returns
-returns c = let call = c.insert.ensures in
-    (says_as call.0 c.say_change.ensures, call.1, call.2)

@@ -1,7 +1,0 @@
--- `compression::reader::skip` meets its contract. Assumes nothing.
-use native.Mathlib.Omega.{arith}
-use Rattle.compression.proofs.ReaderBuffer.{skip_stands}
-use Rattle.compression.proofs.reader.skip.Goals as goal
-
-pub returns : goal.returns
-returns c = λ s st. (skip_stands s c.args.cursor c.args.count st c.requires.0, omega arith)

@@ -1,9 +1,0 @@
--- `replay::files::read_full`: what it has read fits the text. Assumes nothing.
-use Rattle.std.proofs.Common.{length, ◌-◌, ◌≡◌, ◌≤◌}
-use Rattle.replay.proofs.files.read_full.Given as goal
-
-abbrev pub invariant-loop-done : goal.invariant-loop-done
-invariant-loop-done l = (l.done ≤ length l.text) × (length l.text ≡ length l.initial.text)
-
-abbrev pub decreases-loop-done : goal.decreases-loop-done
-decreases-loop-done l = length l.initial.text - l.done

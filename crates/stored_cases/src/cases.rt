@@ -1,0 +1,165 @@
+// A line that is a case: its inputs, given out in turn; and behind the call what is stored of its answer and of the memory that it was lent.
+ghost use Rattle.std.specs.Prelude.{◌≡◌, ◌≤◌, vec_len, IfSome, IfOk, IfErr};
+ghost use Rattle.std.specs.Io.{StartsWith};
+ghost use Rattle.stored_cases.specs.declared.verdicts.NoVerdict.TheVariants.{NotACase};
+ghost use Rattle.stored_cases.specs.declared.verdicts.Verdict.TheVariants.{Agrees};
+
+use super::lists;
+use super::numbers::decimal;
+use super::verdicts::{NoVerdict, Outcome, Verdict};
+use std::alloc::Global;
+use std::str;
+use std::str::FromStr;
+
+// The most numbers that a list holds while it is read.
+pub const LONGEST: usize = 8192;
+
+// What `answer` holds before a call, so that a number left unwritten shows.
+const UNWRITTEN: [u64; 8] = [0xA5A5_A5A5_A5A5_A5A5; 8];
+
+#[derive(Clone, Copy)]
+pub struct Case<'a> {
+    alloc: Global,
+    // which call it is
+    pub name: &'a str,
+    // the inputs that were not given out yet
+    inputs: Option<&'a str>,
+    // the numbers, and then the lists
+    stored: &'a str,
+}
+
+// A case whose call was made.
+#[derive(Clone, Copy)]
+pub struct Answered<'a> {
+    alloc: Global,
+    // of the numbers, and of the lists that were compared
+    pub so_far: Verdict,
+    // the lists that were not compared yet
+    lists: Option<&'a str>,
+}
+
+// What stands before the first `mark`, and what behind it, where there is one.
+fn cut_at<'a>(text: &'a str, mark: &str) -> (&'a str, Option<&'a str>)
+    ensures { StartsWith text.now result.0.now }
+{
+    match text.split_once(mark) {
+        Some((before, behind)) => (before, Some(behind)),
+        None => (text, None),
+    }
+}
+
+// The stored numbers: three to nine, and 0 for those left out.
+fn stored_numbers(text: &str) -> Option<[u64; 9]> {
+    if !(3..=9).contains(&text.split(' ').count()) {
+        return None;
+    }
+    let mut stored = [0; 9];
+    for (place, word) in stored.iter_mut().zip(text.split(' ')) {
+        *place = decimal(word)?;
+    }
+    Some(stored)
+}
+
+// Whether the numbers are what was answered.
+fn compare_numbers(stored: &[u64; 9], res: u32, answer: &[u64; 8]) -> Verdict {
+    Verdict::from(stored[0] == u64::from(res) && stored[1..] == answer[..])
+}
+
+impl<'a> Case<'a> {
+    // The case that the line is, or `None`. (What is not UTF-8 is none: its words are ASCII.)
+    pub fn read(alloc: Global, line: &'a [u8]) -> Option<Case<'a>>
+        ensures { IfSome result (λ case. StartsWith line.now case.name.now) }
+    {
+        let (call, stored) = str::from_utf8(line).ok()?.split_once(" = ")?;
+        let (name, inputs) = cut_at(call, " ");
+        Some(Case {
+            alloc,
+            name,
+            inputs,
+            stored,
+        })
+    }
+
+    fn next_input(&mut self) -> Result<&'a str, NoVerdict>
+        ensures { IfErr result (λ why. why ≡ NotACase) }
+    {
+        let inputs = self.inputs.ok_or(NoVerdict::NotACase)?;
+        let (first, others) = cut_at(inputs, " ");
+        self.inputs = others;
+        Ok(first)
+    }
+
+    // The next input, a number.
+    pub fn number<T: FromStr>(&mut self) -> Result<T, NoVerdict>
+    where
+        T::Err: Drop,
+        ensures { IfErr result (λ why. why ≡ NotACase) }
+    {
+        decimal(self.next_input()?).ok_or(NoVerdict::NotACase)
+    }
+
+    // The next input, a list of at most so many numbers.
+    pub fn list<T: TryFrom<u64> + Drop, const MOST: usize>(&mut self) -> Result<Vec<T>, NoVerdict>
+    where
+        T::Error: Drop,
+        ensures { IfOk result (λ list. vec_len list ≤ MOST) }
+    {
+        lists::read_as::<T, MOST>(self.alloc, self.next_input()?)
+    }
+
+    // The next input, a matrix of at most so many rows: it has no more of them while it is read, either.
+    pub fn matrix<const MOST: usize>(&mut self) -> Result<Vec<u64>, NoVerdict>
+        ensures { IfOk result (λ rows. vec_len rows ≤ MOST) }
+    {
+        lists::read::<MOST>(self.alloc, self.next_input()?)
+    }
+
+    // Makes the call, once all inputs were given out, and compares what it answered.
+    pub fn make<F: FnOnce(&mut [u64; 8]) -> u32>(self, call: F) -> Result<Answered<'a>, NoVerdict>
+        requires { F.IsAlwaysCallable call }
+        ensures { IfErr result (λ why. why ≡ NotACase) }
+    {
+        let mut answer = UNWRITTEN;
+        let result = call(&mut answer);
+        if self.inputs.is_some() {
+            return Err(NoVerdict::NotACase);
+        }
+        let (numbers, lists) = cut_at(self.stored, " ; ");
+        let stored = stored_numbers(numbers).ok_or(NoVerdict::NotACase)?;
+        Ok(Answered {
+            alloc: self.alloc,
+            so_far: compare_numbers(&stored, result, &answer),
+            lists,
+        })
+    }
+}
+
+impl<'a> Answered<'a> {
+    // Compares what was lent with the next list.
+    pub fn compare<T: Copy>(self, lent: &[T]) -> Result<Answered<'a>, NoVerdict>
+    where
+        u64: From<T>,
+        ensures { IfOk result (λ next. next.so_far ≡ Agrees → self.entry.so_far ≡ Agrees) }
+    {
+        let (list, others) = cut_at(self.lists.ok_or(NoVerdict::NotACase)?, " ; ");
+        let stored = lists::read::<LONGEST>(self.alloc, list)?;
+        let wide = lent.iter().map(|entry| u64::from(*entry));
+        let agrees = stored.iter().copied().eq(wide);
+        Ok(Answered {
+            alloc: self.alloc,
+            so_far: self.so_far.and(Verdict::from(agrees)),
+            lists: others,
+        })
+    }
+
+    // What comes of the case, where every list was compared.
+    pub fn verdict(self) -> Outcome
+        ensures ran { IfOk result (λ verdict. verdict ≡ self.entry.so_far) }
+        ensures no_case { IfErr result (λ why. why ≡ NotACase) }
+    {
+        match self.lists {
+            Some(_) => Err(NoVerdict::NotACase),
+            None => Ok(self.so_far),
+        }
+    }
+}

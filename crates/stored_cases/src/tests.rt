@@ -1,0 +1,74 @@
+use super::cases::{Case, LONGEST};
+use super::verdicts::{NoVerdict, Outcome, Verdict};
+use std::alloc::Global;
+use std::test::Fail;
+
+// A made-up call: `answer` begins with its number, and the lent list becomes that many sevens. It answers 0.
+fn sevens(alloc: Global, line: &str) -> Outcome {
+    let mut case = Case::read(alloc, line.as_bytes()).ok_or(NoVerdict::NotACase)?;
+    if case.name != "sevens" {
+        return Err(NoVerdict::NotACase);
+    }
+    let number = case.number::<u8>()?;
+    let bytes = case.list::<u8, 4>()?;
+    let rows = case.matrix::<4>()?;
+    case.make(|answer| {
+        *answer = [u64::from(number), 0, 0, 0, 0, 0, 0, 0];
+        0
+    })?
+    .compare(&bytes)?
+    .compare(&rows)?
+    .verdict()
+}
+
+#[test]
+fn judges_a_line(rt: HostRuntime) -> Result<(), Fail> {
+    let lines = [
+        ("sevens 7 7x4 - = 0 7 0 ; 7,7,7x2 ; -", Ok(Verdict::Agrees)),
+        ("sevens 7 7 3~2 = 0 7 0 ; 7 ; 3,4", Ok(Verdict::Agrees)),
+        (
+            "sevens 7 7 1x4,/2,@1:9 = 0 7 0 ; 7 ; 1,9",
+            Ok(Verdict::Agrees),
+        ),
+        (
+            "sevens 7 pairbook,/0 _1 = 0 7 0 ; - ; 4294967295",
+            Ok(Verdict::Agrees),
+        ),
+        ("sevens 8 7 - = 0 7 0 ; 7 ; -", Ok(Verdict::Disagrees)),
+        ("sevens 7 7 - = 0 7 0 ; 8 ; -", Ok(Verdict::Disagrees)),
+        ("sevens 7 7 - = 0 7 0 ; 7 ; 7", Ok(Verdict::Disagrees)),
+        // a number that is too large, signed or missing
+        ("sevens 256 7 - = 0 7 0 ; 7 ; -", Err(NoVerdict::NotACase)),
+        ("sevens +7 7 - = 0 7 0 ; 7 ; -", Err(NoVerdict::NotACase)),
+        ("sevens  7 - = 0 7 0 ; 7 ; -", Err(NoVerdict::NotACase)),
+        // a list that is too long, and a matrix that was
+        ("sevens 7 7x5 - = 0 7 0 ; 7 ; -", Err(NoVerdict::NotACase)),
+        ("sevens 7 7x5,/4 - = 0 7 0 ; 7x4 ; -", Ok(Verdict::Agrees)),
+        (
+            "sevens 7 7 7x5,/4 = 0 7 0 ; 7 ; 7x4",
+            Err(NoVerdict::NotACase),
+        ),
+        // an input, a number or a list too few or too many
+        ("sevens 7 7 - - = 0 7 0 ; 7 ; -", Err(NoVerdict::NotACase)),
+        ("sevens 7 7 - = 0 7 ; 7 ; -", Err(NoVerdict::NotACase)),
+        (
+            "sevens 7 7 - = 0 7 0 0 0 0 0 0 0 0 ; 7 ; -",
+            Err(NoVerdict::NotACase),
+        ),
+        ("sevens 7 7 - = 0 7 0 ; 7", Err(NoVerdict::NotACase)),
+        ("sevens 7 7 - = 0 7 0 ; 7 ; - ; -", Err(NoVerdict::NotACase)),
+    ];
+    for (line, wanted) in lines {
+        assert_eq!(rt; sevens(rt.alloc(), line), wanted, "at {line}");
+    }
+    Ok(())
+}
+
+#[test]
+fn takes_the_longest_list(rt: HostRuntime) -> Result<(), Fail> {
+    let line = b"- windowtable,pairtable = 0 0 0";
+    let mut case = Case::read(rt.alloc(), line).ok_or("a case")?;
+    let list = case.list::<u16, LONGEST>();
+    assert_eq!(rt; list.map(|entries| entries.len()), Ok(8192));
+    Ok(())
+}
