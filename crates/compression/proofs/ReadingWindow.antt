@@ -4,16 +4,14 @@ use mathlib.Core.List.{List, []}
 use Prim.Native.Nat.{ℕ, suc, ◌+◌, ◌-◌, ◌≤◌, ◌<◌}
 use native.Mathlib.Omega.{arith}
 use lib.ListN.{length, set, length-set}
-use Rattle.std.specs.Prelude.{Result, Ok, Err, MatchResult}
+use Rattle.std.specs.Prelude.{Ok, Err}
 use Rattle.refusals.specs.declared.Reason.TheVariants as reason
-use Rattle.refusals.specs.declared.Refusal.{Refusal}
 use Rattle.refusals.specs.declared.Refusal.TheVariants as refusal
 use Rattle.streams.specs.Stream.{number, word_bits}
 use Rattle.streams.specs.Looks.{Looked, found, cut, code_at}
 use Rattle.streams.specs.Read.{whole, Reading, item_then, on_byte, bytes_from}
-use Rattle.compression.specs.Reading.{Stands, place_of, Holds, TakenBy, code_is, ReadBy}
+use Rattle.compression.specs.Reading.{Stands, place_of, Holds, code_is, ReadBy}
 use Rattle.compression.specs.declared.reader.Cursor.{Cursor}
-use Rattle.compression.specs.declared.reader.Cut.{Cut}
 use Rattle.compression.proofs.ReadingFront.{Front, front_start, front_turn, front_outcome, front_output}
 
 module _ (n end : ℕ) (book : List ℕ) where
@@ -63,20 +61,12 @@ module _ (s table out₀ out : List ℕ) (cursor : Cursor) (i : ℕ) (head : Win
         ∙ ap (λ (m : ℕ). item_then byte (bytes_from (number s) (word_bits s) book m (place_of cursor'))) (omega arith));
   }
 
-  window_cut : (bit : ℕ) → i < length out₀ → code_is s table (place_of cursor) (cut bit) → (book : List ℕ) → Holds book table
+  pub window_cut : (bit : ℕ) → i < length out₀ → code_is s table (place_of cursor) (cut bit) → (book : List ℕ) → Holds book table
       → ReadBy (bytes_from (number s) (word_bits s) book (length out₀) 0) out₀ out (Err (refusal.Reading (reason.StreamEnds i bit)))
   window_cut bit h is book holds =
       let e = by_first (number s) (word_bits s) book (length out₀ - i) (place_of cursor) _ (omega arith) (is book holds) in
       let front = head.reads book holds in
       (sym (front_outcome _ _ out₀ out i front _ e), front_output _ _ out₀ out i front _ e)
-
-  -- a look that failed, as the answer has it
-  pub window_refused : i < length out₀ → (r : Result (ℕ × Cursor) Cut) → TakenBy s (code_is s table (place_of cursor)) 256 r → (why : Refusal)
-      → MatchResult r (λ taken. ⊥) (λ cut. why ≡ refusal.Reading (reason.StreamEnds i cut.bit)) → (book : List ℕ) → Holds book table
-      → ReadBy (bytes_from (number s) (word_bits s) book (length out₀) 0) out₀ out (Err why)
-  window_refused h (Ok taken) is why e book holds = elim e [ ]
-  window_refused h (Err ends) is why e book holds =
-      subst (λ (w : Refusal). ReadBy (bytes_from (number s) (word_bits s) book (length out₀) 0) out₀ out (Err w)) (sym e) (window_cut ends.bit h is book holds)
 
   pub window_end : length out₀ ≤ i → (book : List ℕ) → Holds book table → ReadBy (bytes_from (number s) (word_bits s) book (length out₀) 0) out₀ out (Ok tt)
   window_end h book holds =

@@ -16,15 +16,19 @@ pub fn read_into(coded: CodedStream, window: &mut [u8]) -> Result<(), Refusal>
 {
     let mut cursor = Cursor::begin();
     for i in 0..window.len() {
-        let place = i as u64;
-        let (byte, after) = coded.take_code(cursor).map_err(|cut| {
-            Refusal::Reading(Reason::StreamEnds {
-                place,
-                bit: cut.bit,
-            })
-        })?;
-        window[i] = byte as u8;
-        cursor = after;
+        // A match, so that a fault has a branch of its own.
+        match coded.take_code(cursor) {
+            Err(cut) => {
+                return Err(Refusal::Reading(Reason::StreamEnds {
+                    place: i as u64,
+                    bit: cut.bit,
+                }));
+            }
+            Ok((byte, after)) => {
+                window[i] = byte as u8;
+                cursor = after;
+            }
+        }
     }
     Ok(())
 }

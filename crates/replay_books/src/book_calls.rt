@@ -5,14 +5,18 @@ use stored_cases::verdicts::Outcome;
 
 fn check_book(mut case: Case<'_>) -> Outcome {
     let book = case.list::<u16, LONGEST>()?;
-    let answered = case.make(|answer| book_calls::bridgenook_check_book(&book, answer))?;
+    let answered = case.make(|answer| book_calls::bridgenook_check_book(book.as_slice(), answer))?;
     answered.verdict()
 }
 
 fn check_table(mut case: Case<'_>) -> Outcome {
     let book = case.list::<u16, LONGEST>()?;
     let table = case.list::<u16, LONGEST>()?;
-    let answered = case.make(|answer| book_calls::bridgenook_check_table(&book, &table, answer))?;
+    let answered = case.make(|answer| book_calls::bridgenook_check_table(
+        book.as_slice(),
+        table.as_slice(),
+        answer,
+    ))?;
     answered.verdict()
 }
 
@@ -20,17 +24,19 @@ fn fill_table(mut case: Case<'_>) -> Outcome {
     let book = case.list::<u16, LONGEST>()?;
     let mut table = case.list::<u16, LONGEST>()?;
     let answered = case.make(|answer| {
-        book_calls::bridgenook_fill_table(&book, &mut table, answer)
+        book_calls::bridgenook_fill_table(book.as_slice(), table.as_mut_slice(), answer)
     })?;
-    answered.compare(&table)?.verdict()
+    answered.compare(table.as_slice())?.verdict()
 }
 
 // The list behind the numbers is the part that `books::pick` hands back.
 fn pick(mut case: Case<'_>) -> Outcome {
     let set = case.list::<u16, LONGEST>()?;
     let phase = case.number()?;
-    let answered = case.make(|answer| book_calls::bridgenook_pick(&set, phase, answer))?;
-    answered.compare(books::pick(&set, phase))?.verdict()
+    let answered = case.make(|answer| book_calls::bridgenook_pick(set.as_slice(), phase, answer))?;
+    answered
+        .compare(books::pick(set.as_slice(), phase))?
+        .verdict()
 }
 
 pub fn run(case: Case<'_>) -> Option<Outcome> {

@@ -8,8 +8,8 @@ fn copy<F: Fn(&mut [u16], &mut [u64; 8]) -> u32>(mut case: Case<'_>, call: F) ->
     requires { F.IsAlwaysCallable call }
 {
     let mut out = case.list::<u16, LONGEST>()?;
-    let answered = case.make(|answer| call(&mut out, answer))?;
-    answered.compare(&out)?.verdict()
+    let answered = case.make(|answer| call(out.as_mut_slice(), answer))?;
+    answered.compare(out.as_slice())?.verdict()
 }
 
 pub fn run(case: Case<'_>) -> Option<Outcome> {

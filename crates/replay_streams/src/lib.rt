@@ -8,7 +8,11 @@ use stored_cases::verdicts::Outcome;
 fn judge_pairs(mut case: Case<'_>) -> Outcome {
     let lg = case.number()?;
     let pairs = case.list::<u32, LONGEST>()?;
-    let answered = case.make(|answer| stream_calls::bridgenook_judge_pairs(lg, &pairs, answer))?;
+    let answered = case.make(|answer| stream_calls::bridgenook_judge_pairs(
+        lg,
+        pairs.as_slice(),
+        answer,
+    ))?;
     answered.verdict()
 }
 
@@ -18,9 +22,15 @@ fn write_pairs(mut case: Case<'_>) -> Outcome {
     let pairs = case.list::<u32, LONGEST>()?;
     let mut out = case.list::<u8, LONGEST>()?;
     let answered = case.make(|answer| {
-        stream_calls::bridgenook_write_pairs(&book, lg, &pairs, &mut out, answer)
+        stream_calls::bridgenook_write_pairs(
+            book.as_slice(),
+            lg,
+            pairs.as_slice(),
+            out.as_mut_slice(),
+            answer,
+        )
     })?;
-    answered.compare(&out)?.verdict()
+    answered.compare(out.as_slice())?.verdict()
 }
 
 fn write_window(mut case: Case<'_>) -> Outcome {
@@ -29,9 +39,15 @@ fn write_window(mut case: Case<'_>) -> Outcome {
     let window = case.list::<u8, LONGEST>()?;
     let mut out = case.list::<u8, LONGEST>()?;
     let answered = case.make(|answer| {
-        stream_calls::bridgenook_write_window(&book, lg, &window, &mut out, answer)
+        stream_calls::bridgenook_write_window(
+            book.as_slice(),
+            lg,
+            window.as_slice(),
+            out.as_mut_slice(),
+            answer,
+        )
     })?;
-    answered.compare(&out)?.verdict()
+    answered.compare(out.as_slice())?.verdict()
 }
 
 fn read_pairs(mut case: Case<'_>) -> Outcome {
@@ -42,9 +58,17 @@ fn read_pairs(mut case: Case<'_>) -> Outcome {
     let stream = case.list::<u8, LONGEST>()?;
     let mut out = case.list::<u32, LONGEST>()?;
     let answered = case.make(|answer| {
-        stream_calls::bridgenook_read_pairs(&book, &table, lg, count, &stream, &mut out, answer)
+        stream_calls::bridgenook_read_pairs(
+            book.as_slice(),
+            table.as_slice(),
+            lg,
+            count,
+            stream.as_slice(),
+            out.as_mut_slice(),
+            answer,
+        )
     })?;
-    answered.compare(&out)?.verdict()
+    answered.compare(out.as_slice())?.verdict()
 }
 
 fn read_window(mut case: Case<'_>) -> Outcome {
@@ -54,9 +78,16 @@ fn read_window(mut case: Case<'_>) -> Outcome {
     let stream = case.list::<u8, LONGEST>()?;
     let mut window = case.list::<u8, LONGEST>()?;
     let answered = case.make(|answer| {
-        stream_calls::bridgenook_read_window(&book, &table, lg, &stream, &mut window, answer)
+        stream_calls::bridgenook_read_window(
+            book.as_slice(),
+            table.as_slice(),
+            lg,
+            stream.as_slice(),
+            window.as_mut_slice(),
+            answer,
+        )
     })?;
-    answered.compare(&window)?.verdict()
+    answered.compare(window.as_slice())?.verdict()
 }
 
 // `None`: its call is none of these.

@@ -3,6 +3,7 @@
 
 use bridgenook::table_calls;
 use stored_cases::cases::Case;
+use stored_cases::lists::List;
 use stored_cases::verdicts::{NoVerdict, Outcome};
 
 // The most slots that a case lends or lists.
@@ -14,8 +15,8 @@ struct Table {
     lg: u8,
     valid: u8,
     items: u32,
-    region: Vec<u32>,
-    spare: Vec<u32>,
+    region: List<u32, SLOTS>,
+    spare: List<u32, SLOTS>,
 }
 
 impl Table {
@@ -36,9 +37,18 @@ fn new(mut case: Case<'_>) -> Outcome {
     let mut region = case.list::<u32, SLOTS>()?;
     let mut spare = case.list::<u32, SLOTS>()?;
     let answered = case.make(|answer| {
-        table_calls::bridgenook_table_new(lg, valid, &mut region, &mut spare, answer)
+        table_calls::bridgenook_table_new(
+            lg,
+            valid,
+            region.as_mut_slice(),
+            spare.as_mut_slice(),
+            answer,
+        )
     })?;
-    answered.compare(&region)?.compare(&spare)?.verdict()
+    answered
+        .compare(region.as_slice())?
+        .compare(spare.as_slice())?
+        .verdict()
 }
 
 // An insert, or a delete.
@@ -54,14 +64,14 @@ fn change<F: Fn(u8, u8, u32, &mut [u32], &mut [u32], u32, &mut [u64; 8]) -> u32>
         table.lg,
         table.valid,
         table.items,
-        &mut table.region,
-        &mut table.spare,
+        table.region.as_mut_slice(),
+        table.spare.as_mut_slice(),
         item,
         answer,
     ))?;
     answered
-        .compare(&table.region)?
-        .compare(&table.spare)?
+        .compare(table.region.as_slice())?
+        .compare(table.spare.as_slice())?
         .verdict()
 }
 
@@ -72,14 +82,14 @@ fn clear(mut case: Case<'_>) -> Outcome {
             table.lg,
             table.valid,
             table.items,
-            &mut table.region,
-            &mut table.spare,
+            table.region.as_mut_slice(),
+            table.spare.as_mut_slice(),
             answer,
         )
     })?;
     answered
-        .compare(&table.region)?
-        .compare(&table.spare)?
+        .compare(table.region.as_slice())?
+        .compare(table.spare.as_slice())?
         .verdict()
 }
 
@@ -89,9 +99,18 @@ fn build(mut case: Case<'_>) -> Outcome {
     let mut region = case.list::<u32, SLOTS>()?;
     let mut spare = case.list::<u32, SLOTS>()?;
     let answered = case.make(|answer| {
-        table_calls::bridgenook_table_build(valid, &list, &mut region, &mut spare, answer)
+        table_calls::bridgenook_table_build(
+            valid,
+            list.as_slice(),
+            region.as_mut_slice(),
+            spare.as_mut_slice(),
+            answer,
+        )
     })?;
-    answered.compare(&region)?.compare(&spare)?.verdict()
+    answered
+        .compare(region.as_slice())?
+        .compare(spare.as_slice())?
+        .verdict()
 }
 
 // An extraction, or a walk.
@@ -107,12 +126,12 @@ fn list<F: Fn(u8, u8, u32, &[u32], &[u32], &mut [u32], &mut [u64; 8]) -> u32>(
         table.lg,
         table.valid,
         table.items,
-        &table.region,
-        &table.spare,
-        &mut out,
+        table.region.as_slice(),
+        table.spare.as_slice(),
+        out.as_mut_slice(),
         answer,
     ))?;
-    answered.compare(&out)?.verdict()
+    answered.compare(out.as_slice())?.verdict()
 }
 
 // `None`: its call is none of these.

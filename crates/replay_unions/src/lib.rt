@@ -14,7 +14,11 @@ const PAIRS: usize = 256;
 fn count(mut case: Case<'_>) -> Outcome {
     let lg = case.number()?;
     let matrix = case.matrix::<ROWS>()?;
-    let answered = case.make(|answer| union_calls::bridgenook_count(lg, &matrix, answer))?;
+    let answered = case.make(|answer| union_calls::bridgenook_count(
+        lg,
+        matrix.as_slice(),
+        answer,
+    ))?;
     answered.verdict()
 }
 
@@ -24,9 +28,18 @@ fn split(mut case: Case<'_>) -> Outcome {
     let mut window = case.list::<u8, ROWS>()?;
     let mut pairs = case.list::<u32, PAIRS>()?;
     let answered = case.make(|answer| {
-        union_calls::bridgenook_split(lg, &matrix, &mut window, &mut pairs, answer)
+        union_calls::bridgenook_split(
+            lg,
+            matrix.as_slice(),
+            window.as_mut_slice(),
+            pairs.as_mut_slice(),
+            answer,
+        )
     })?;
-    answered.compare(&window)?.compare(&pairs)?.verdict()
+    answered
+        .compare(window.as_slice())?
+        .compare(pairs.as_slice())?
+        .verdict()
 }
 
 fn expand(mut case: Case<'_>) -> Outcome {
@@ -36,9 +49,16 @@ fn expand(mut case: Case<'_>) -> Outcome {
     let pairs = case.list::<u32, PAIRS>()?;
     let mut matrix = case.matrix::<ROWS>()?;
     let answered = case.make(|answer| {
-        union_calls::bridgenook_expand(lg, coupons, &window, &pairs, &mut matrix, answer)
+        union_calls::bridgenook_expand(
+            lg,
+            coupons,
+            window.as_slice(),
+            pairs.as_slice(),
+            matrix.as_mut_slice(),
+            answer,
+        )
     })?;
-    answered.compare(&matrix)?.verdict()
+    answered.compare(matrix.as_slice())?.verdict()
 }
 
 fn new_union(mut case: Case<'_>) -> Outcome {
@@ -46,9 +66,9 @@ fn new_union(mut case: Case<'_>) -> Outcome {
     let seed = case.number()?;
     let mut matrix = case.matrix::<ROWS>()?;
     let answered = case.make(|answer| {
-        union_calls::bridgenook_new_union(lg, seed, &mut matrix, answer)
+        union_calls::bridgenook_new_union(lg, seed, matrix.as_mut_slice(), answer)
     })?;
-    answered.compare(&matrix)?.verdict()
+    answered.compare(matrix.as_slice())?.verdict()
 }
 
 fn merge(mut case: Case<'_>) -> Outcome {
@@ -66,16 +86,16 @@ fn merge(mut case: Case<'_>) -> Outcome {
             lg,
             present,
             seed,
-            &mut matrix,
+            matrix.as_mut_slice(),
             from,
             other,
             coupons,
-            &window,
-            &pairs,
+            window.as_slice(),
+            pairs.as_slice(),
             answer,
         )
     })?;
-    answered.compare(&matrix)?.verdict()
+    answered.compare(matrix.as_slice())?.verdict()
 }
 
 // `None`: its call is none of these.

@@ -1,13 +1,13 @@
 // A line that is a case: its inputs, given out in turn; and behind the call what is stored of its answer and of the memory that it was lent.
-ghost use Rattle.std.specs.Prelude.{◌≡◌, ◌≤◌, vec_len, IfSome, IfOk, IfErr};
+ghost use Rattle.std.specs.Prelude.{◌≡◌, IfSome, IfOk, IfErr};
 ghost use Rattle.std.specs.Io.{StartsWith};
 ghost use Rattle.stored_cases.specs.declared.verdicts.NoVerdict.TheVariants.{NotACase};
 ghost use Rattle.stored_cases.specs.declared.verdicts.Verdict.TheVariants.{Agrees};
 
 use super::lists;
+use super::lists::List;
 use super::numbers::decimal;
 use super::verdicts::{NoVerdict, Outcome, Verdict};
-use std::alloc::Global;
 use std::str;
 use std::str::FromStr;
 
@@ -19,7 +19,6 @@ const UNWRITTEN: [u64; 8] = [0xA5A5_A5A5_A5A5_A5A5; 8];
 
 #[derive(Clone, Copy)]
 pub struct Case<'a> {
-    alloc: Global,
     // which call it is
     pub name: &'a str,
     // the inputs that were not given out yet
@@ -31,7 +30,6 @@ pub struct Case<'a> {
 // A case whose call was made.
 #[derive(Clone, Copy)]
 pub struct Answered<'a> {
-    alloc: Global,
     // of the numbers, and of the lists that were compared
     pub so_far: Verdict,
     // the lists that were not compared yet
@@ -67,13 +65,12 @@ fn compare_numbers(stored: &[u64; 9], res: u32, answer: &[u64; 8]) -> Verdict {
 
 impl<'a> Case<'a> {
     // The case that the line is, or `None`. (What is not UTF-8 is none: its words are ASCII.)
-    pub fn read(alloc: Global, line: &'a [u8]) -> Option<Case<'a>>
+    pub fn read(line: &'a [u8]) -> Option<Case<'a>>
         ensures { IfSome result (λ case. StartsWith line.now case.name.now) }
     {
         let (call, stored) = str::from_utf8(line).ok()?.split_once(" = ")?;
         let (name, inputs) = cut_at(call, " ");
         Some(Case {
-            alloc,
             name,
             inputs,
             stored,
@@ -99,19 +96,23 @@ impl<'a> Case<'a> {
     }
 
     // The next input, a list of at most so many numbers.
-    pub fn list<T: TryFrom<u64> + Drop, const MOST: usize>(&mut self) -> Result<Vec<T>, NoVerdict>
+    pub fn list<T: TryFrom<u64> + Default + Drop, const MOST: usize>(
+        &mut self,
+    ) -> Result<List<T, MOST>, NoVerdict>
     where
         T::Error: Drop,
-        ensures { IfOk result (λ list. vec_len list ≤ MOST) }
+        ensures { IfErr result (λ why. why ≡ NotACase) }
     {
-        lists::read_as::<T, MOST>(self.alloc, self.next_input()?)
+        lists::read_as(self.next_input()?)
     }
 
     // The next input, a matrix of at most so many rows: it has no more of them while it is read, either.
-    pub fn matrix<const MOST: usize>(&mut self) -> Result<Vec<u64>, NoVerdict>
-        ensures { IfOk result (λ rows. vec_len rows ≤ MOST) }
+    pub fn matrix<const MOST: usize>(&mut self) -> Result<List<u64, MOST>, NoVerdict>
+        ensures { IfErr result (λ why. why ≡ NotACase) }
     {
-        lists::read::<MOST>(self.alloc, self.next_input()?)
+        let mut rows = List::new();
+        rows.read(self.next_input()?)?;
+        Ok(rows)
     }
 
     // Makes the call, once all inputs were given out, and compares what it answered.
@@ -127,7 +128,6 @@ impl<'a> Case<'a> {
         let (numbers, lists) = cut_at(self.stored, " ; ");
         let stored = stored_numbers(numbers).ok_or(NoVerdict::NotACase)?;
         Ok(Answered {
-            alloc: self.alloc,
             so_far: compare_numbers(&stored, result, &answer),
             lists,
         })
@@ -139,14 +139,15 @@ impl<'a> Answered<'a> {
     pub fn compare<T: Copy>(self, lent: &[T]) -> Result<Answered<'a>, NoVerdict>
     where
         u64: From<T>,
-        ensures { IfOk result (λ next. next.so_far ≡ Agrees → self.entry.so_far ≡ Agrees) }
+        ensures agrees { IfOk result (λ next. next.so_far ≡ Agrees → self.entry.so_far ≡ Agrees) }
+        ensures no_case { IfErr result (λ why. why ≡ NotACase) }
     {
         let (list, others) = cut_at(self.lists.ok_or(NoVerdict::NotACase)?, " ; ");
-        let stored = lists::read::<LONGEST>(self.alloc, list)?;
+        let mut stored = List::<u64, LONGEST>::new();
+        stored.read(list)?;
         let wide = lent.iter().map(|entry| u64::from(*entry));
-        let agrees = stored.iter().copied().eq(wide);
+        let agrees = stored.as_slice().iter().copied().eq(wide);
         Ok(Answered {
-            alloc: self.alloc,
             so_far: self.so_far.and(Verdict::from(agrees)),
             lists: others,
         })

@@ -6,7 +6,7 @@
 
 pub mod cases;
 mod items;
-mod lists;
+pub mod lists;
 mod numbers;
 #[cfg(test)]
 mod tests;

@@ -1,10 +1,50 @@
 // Lists: items that commas part, read from left to right. `-` alone is the empty list.
-ghost use Rattle.std.specs.Prelude.{◌≤◌, vec_len, IfOk};
+ghost use Rattle.std.specs.Prelude.{◌≡◌, ◌<◌, ◌≤◌, length, IfOk, IfErr, OnOk};
+ghost use Rattle.stored_cases.specs.declared.verdicts.NoVerdict.TheVariants.{NotACase};
 
 use super::cases::LONGEST;
 use super::items::Item;
 use super::verdicts::NoVerdict;
-use std::alloc::Global;
+
+// Never more than so many numbers. They lie in the value itself: its memory is fixed, so no case can run out of memory.
+#[derive(Drop)]
+pub struct List<T, const ROOM: usize> {
+    entries: [T; ROOM],
+    // how many of the entries are in the list; what stands behind them is left over
+    length: usize,
+    ghost within: { length ≤ ROOM },
+}
+
+impl<T, const ROOM: usize> List<T, ROOM> {
+    // The numbers of the list, and nothing that is left over behind them.
+    pub fn as_slice(&self) -> &[T]
+        ensures all { length result.now ≡ self.now.length }
+        ensures few { length result.now ≤ ROOM }
+    {
+        &self.entries[..self.length]
+    }
+
+    pub fn as_mut_slice(&mut self) -> &mut [T]
+        ensures all { length result.now ≡ self.old.length }
+        ensures few { length result.now ≤ ROOM }
+    {
+        let length = self.length;
+        let entries = &mut self.entries;
+        &mut entries[..length]
+    }
+}
+
+impl<T: Default, const ROOM: usize> List<T, ROOM> {
+    // No numbers.
+    pub(crate) fn new() -> List<T, ROOM>
+        ensures { result.length ≡ 0 }
+    {
+        List {
+            entries: Default::default(),
+            length: 0,
+        }
+    }
+}
 
 // The practice window book's decoding table has no constant: the library fills it.
 fn window_table() -> Option<[u16; 4096]> {
@@ -13,25 +53,14 @@ fn window_table() -> Option<[u16; 4096]> {
     Some(table)
 }
 
-// What the items read so far make: never more than so many numbers.
-#[derive(Drop)]
-struct List<const ROOM: usize> {
-    entries: Vec<u64>,
-    ghost within: { vec_len entries ≤ ROOM },
-}
-
-impl<const ROOM: usize> List<ROOM> {
-    fn new(alloc: Global) -> List<ROOM> {
-        List {
-            entries: Vec::new(alloc),
-        }
-    }
-
+// What the items read so far make.
+impl<const ROOM: usize> List<u64, ROOM> {
     fn push(&mut self, value: u64) -> Result<(), NoVerdict> {
-        if self.entries.len() >= ROOM {
+        if self.length >= ROOM {
             return Err(NoVerdict::NotACase);
         }
-        self.entries.push(value)?;
+        self.entries[self.length] = value;
+        self.length += 1;
         Ok(())
     }
 
@@ -61,19 +90,27 @@ impl<const ROOM: usize> List<ROOM> {
         self.push_all(&table)
     }
 
-    fn cut(&mut self, length: u64) -> Result<(), NoVerdict> {
-        let length = usize::try_from(length).map_err(|_| NoVerdict::NotACase)?;
-        if length > self.entries.len() {
+    fn cut(&mut self, end: u64) -> Result<(), NoVerdict>
+        ensures end { OnOk result (self.new.length ≡ end) }
+        ensures no_longer { OnOk result (self.new.length ≤ self.old.length) }
+    {
+        let end = usize::try_from(end).map_err(|_| NoVerdict::NotACase)?;
+        if end > self.length {
             return Err(NoVerdict::NotACase);
         }
-        self.entries.truncate(length);
+        self.length = end;
         Ok(())
     }
 
-    fn put(&mut self, place: u64, value: u64) -> Result<(), NoVerdict> {
+    fn put(&mut self, place: u64, value: u64) -> Result<(), NoVerdict>
+        ensures inside { OnOk result (place < self.old.length) }
+        ensures as_long { self.new.length ≡ self.old.length }
+    {
         let place = usize::try_from(place).map_err(|_| NoVerdict::NotACase)?;
-        let entry = self.entries.get_mut(place).ok_or(NoVerdict::NotACase)?;
-        *entry = value;
+        if place >= self.length {
+            return Err(NoVerdict::NotACase);
+        }
+        self.entries[place] = value;
         Ok(())
     }
 
@@ -81,7 +118,7 @@ impl<const ROOM: usize> List<ROOM> {
         match item {
             Item::Times { value, times } => self.push_times(value, times),
             Item::Rising { first, times } => self.push_rising(first, times),
-            Item::Cut(length) => self.cut(length),
+            Item::Cut(end) => self.cut(end),
             Item::Put { place, value } => self.put(place, value),
             Item::PairBook => self.push_all(&practice::pair_book()),
             Item::WindowBook => self.push_all(&practice::window_book()),
@@ -89,37 +126,49 @@ impl<const ROOM: usize> List<ROOM> {
             Item::WindowTable => self.push_window_table(),
         }
     }
+
+    // Puts the list that `text` is behind what is there. On the way, too, there are never more than so many numbers.
+    pub(crate) fn read(&mut self, text: &str) -> Result<(), NoVerdict>
+        ensures { IfErr result (λ why. why ≡ NotACase) }
+    {
+        if text != "-" {
+            for item in text.split(',') {
+                self.take(item.parse()?)?;
+            }
+        }
+        Ok(())
+    }
 }
 
-// The list that `text` is; it never holds more than so many numbers on the way.
-pub fn read<const ROOM: usize>(alloc: Global, text: &str) -> Result<Vec<u64>, NoVerdict>
-    ensures { IfOk result (λ list. vec_len list ≤ ROOM) }
+// The same numbers, where there are at most so many and each fits.
+fn narrow<T: TryFrom<u64> + Default + Drop, const MOST: usize>(
+    wide: &[u64],
+) -> Result<List<T, MOST>, NoVerdict>
+where
+    T::Error: Drop,
+    ensures all { IfOk result (λ list. list.length ≡ length wide.now) }
+    ensures no_case { IfErr result (λ why. why ≡ NotACase) }
 {
-    let mut list = List::<ROOM>::new(alloc);
-    if text != "-" {
-        for item in text.split(',') {
-            list.take(item.parse()?)?;
-        }
+    if wide.len() > MOST {
+        return Err(NoVerdict::NotACase);
     }
-    Ok(list.entries)
+    let mut list = List::<T, MOST>::new();
+    for (place, entry) in list.entries.iter_mut().zip(wide) {
+        *place = T::try_from(*entry).map_err(|_| NoVerdict::NotACase)?;
+    }
+    list.length = wide.len();
+    Ok(list)
 }
 
 // The list that `text` is, where it is at most so long and each number fits.
-pub fn read_as<T: TryFrom<u64> + Drop, const MOST: usize>(
-    alloc: Global,
+pub(crate) fn read_as<T: TryFrom<u64> + Default + Drop, const MOST: usize>(
     text: &str,
-) -> Result<Vec<T>, NoVerdict>
+) -> Result<List<T, MOST>, NoVerdict>
 where
     T::Error: Drop,
-    ensures { IfOk result (λ list. vec_len list ≤ MOST) }
+    ensures { IfErr result (λ why. why ≡ NotACase) }
 {
-    let list = read::<LONGEST>(alloc, text)?;
-    if list.len() > MOST {
-        return Err(NoVerdict::NotACase);
-    }
-    let mut entries = Vec::with_capacity(alloc, list.len())?;
-    for entry in &list {
-        entries.push(T::try_from(*entry).map_err(|_| NoVerdict::NotACase)?)?;
-    }
-    Ok(entries)
+    let mut wide = List::<u64, LONGEST>::new();
+    wide.read(text)?;
+    narrow(wide.as_slice())
 }

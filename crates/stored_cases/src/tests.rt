@@ -1,11 +1,10 @@
 use super::cases::{Case, LONGEST};
 use super::verdicts::{NoVerdict, Outcome, Verdict};
-use std::alloc::Global;
 use std::test::Fail;
 
 // A made-up call: `answer` begins with its number, and the lent list becomes that many sevens. It answers 0.
-fn sevens(alloc: Global, line: &str) -> Outcome {
-    let mut case = Case::read(alloc, line.as_bytes()).ok_or(NoVerdict::NotACase)?;
+fn sevens(line: &str) -> Outcome {
+    let mut case = Case::read(line.as_bytes()).ok_or(NoVerdict::NotACase)?;
     if case.name != "sevens" {
         return Err(NoVerdict::NotACase);
     }
@@ -16,8 +15,8 @@ fn sevens(alloc: Global, line: &str) -> Outcome {
         *answer = [u64::from(number), 0, 0, 0, 0, 0, 0, 0];
         0
     })?
-    .compare(&bytes)?
-    .compare(&rows)?
+    .compare(bytes.as_slice())?
+    .compare(rows.as_slice())?
     .verdict()
 }
 
@@ -59,7 +58,7 @@ fn judges_a_line(rt: HostRuntime) -> Result<(), Fail> {
         ("sevens 7 7 - = 0 7 0 ; 7 ; - ; -", Err(NoVerdict::NotACase)),
     ];
     for (line, wanted) in lines {
-        assert_eq!(rt; sevens(rt.alloc(), line), wanted, "at {line}");
+        assert_eq!(rt; sevens(line), wanted, "at {line}");
     }
     Ok(())
 }
@@ -67,8 +66,8 @@ fn judges_a_line(rt: HostRuntime) -> Result<(), Fail> {
 #[test]
 fn takes_the_longest_list(rt: HostRuntime) -> Result<(), Fail> {
     let line = b"- windowtable,pairtable = 0 0 0";
-    let mut case = Case::read(rt.alloc(), line).ok_or("a case")?;
+    let mut case = Case::read(line).ok_or("a case")?;
     let list = case.list::<u16, LONGEST>();
-    assert_eq!(rt; list.map(|entries| entries.len()), Ok(8192));
+    assert_eq!(rt; list.map(|entries| entries.as_slice().len()), Ok(8192));
     Ok(())
 }

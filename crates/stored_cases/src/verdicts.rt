@@ -1,9 +1,6 @@
 // What comes of a line.
-ghost use Rattle.std.specs.Prelude.{◌≡◌, ◌≢◌, ◌↔◌, IsTrue};
-ghost use Rattle.stored_cases.specs.declared.verdicts.NoVerdict.TheVariants.{NotACase, OutOfMemory};
+ghost use Rattle.std.specs.Prelude.{◌≡◌, ◌↔◌, IsTrue};
 ghost use Rattle.stored_cases.specs.declared.verdicts.Verdict.TheVariants.{Agrees};
-
-use std::alloc::{AllocError, AllocFailed};
 
 // What comes of a case that ran.
 #[derive(Clone, Copy, Debug, PartialEq, Eq)]
@@ -16,27 +13,10 @@ pub enum Verdict {
 #[derive(Clone, Copy, Debug, PartialEq, Eq)]
 pub enum NoVerdict {
     NotACase,
-    OutOfMemory(AllocError),
 }
 
 // What a line gives.
 pub type Outcome = Result<Verdict, NoVerdict>;
-
-impl From<AllocError> for NoVerdict {
-    ghost from_gives = { λ error why. why ≡ OutOfMemory error };
-
-    fn from(error: AllocError) -> NoVerdict {
-        NoVerdict::OutOfMemory(error)
-    }
-}
-
-impl<T: Drop> From<AllocFailed<T>> for NoVerdict {
-    ghost from_gives = { λ _ why. why ≢ NotACase };
-
-    fn from(failed: AllocFailed<T>) -> NoVerdict {
-        NoVerdict::OutOfMemory(AllocError::from(failed))
-    }
-}
 
 // Of a comparison.
 impl From<bool> for Verdict {

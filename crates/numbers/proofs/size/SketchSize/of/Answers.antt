@@ -1,19 +1,20 @@
--- `numbers::size::SketchSize::of` meets its contract: a power between two others lies between them. Assumes nothing.
-use Prim.Native.Nat.{◌≤◌}
-use native.Mathlib.Omega.{arith}
-use lib.Pow.{pow_mono}
-use Rattle.laws.proofs.Shifts.{one_shl}
+-- `numbers::size::SketchSize::of` meets its contract: what `rows` answers fits a size. Assumes nothing.
+use Rattle.std.proofs.lemmas.Result.{err_from_is_err_and}
+use Rattle.numbers.proofs.RowsTold.{RowsAt, rows_given, rows_outside}
 use Rattle.numbers.proofs.size.SketchSize.of.Goals as goal
 
 pub invariant_of-result : goal.invariant_of-result
 invariant_of-result c =
-    let low : 4 ≤ c.args.lg = c.if-lg-lt4.false in
-    let high : c.args.lg ≤ 26 = c.if-lg-gt26.false in
-    let power = one_shl c.args.lg (omega arith) in
+    let at : RowsAt c.args.lg c.in_ok-k.k = rows_given c.args.lg c.in_ok-k.k c.in_ok-k.ensures in
     record {
-      low = low;
-      high = high;
-      power = power;
-      least = omega (arith, power, pow_mono low);
-      most = omega (arith, power, pow_mono high);
+      low = at.low;
+      high = at.high;
+      power = at.power;
+      least = at.least;
+      most = at.most;
     }
+
+pub returns-in_err-k-clause-refused : goal.returns-in_err-k-clause-refused
+returns-in_err-k-clause-refused c = let p = err_from_is_err_and c.from_residual.result c.from_residual.ensures.1 in
+    let why = rows_outside c.args.lg c.in_err-k.field-0.0 c.in_err-k.ensures in
+    rw (p.1, p.2) why
