@@ -1,17 +1,21 @@
 // The calls of bridgenook's module book_calls.
 use bridgenook::book_calls;
 use stored_cases::cases::{Case, LONGEST};
+use stored_cases::lists::List;
 use stored_cases::verdicts::Outcome;
 
 fn check_book(mut case: Case<'_>) -> Outcome {
-    let book = case.list::<u16, LONGEST>()?;
+    let mut book = List::<u16, LONGEST>::new();
+    case.list(&mut book)?;
     let answered = case.make(|answer| book_calls::bridgenook_check_book(book.as_slice(), answer))?;
     answered.verdict()
 }
 
 fn check_table(mut case: Case<'_>) -> Outcome {
-    let book = case.list::<u16, LONGEST>()?;
-    let table = case.list::<u16, LONGEST>()?;
+    let mut book = List::<u16, LONGEST>::new();
+    case.list(&mut book)?;
+    let mut table = List::<u16, LONGEST>::new();
+    case.list(&mut table)?;
     let answered = case.make(|answer| book_calls::bridgenook_check_table(
         book.as_slice(),
         table.as_slice(),
@@ -21,8 +25,10 @@ fn check_table(mut case: Case<'_>) -> Outcome {
 }
 
 fn fill_table(mut case: Case<'_>) -> Outcome {
-    let book = case.list::<u16, LONGEST>()?;
-    let mut table = case.list::<u16, LONGEST>()?;
+    let mut book = List::<u16, LONGEST>::new();
+    case.list(&mut book)?;
+    let mut table = List::<u16, LONGEST>::new();
+    case.list(&mut table)?;
     let answered = case.make(|answer| {
         book_calls::bridgenook_fill_table(book.as_slice(), table.as_mut_slice(), answer)
     })?;
@@ -31,7 +37,8 @@ fn fill_table(mut case: Case<'_>) -> Outcome {
 
 // The list behind the numbers is the part that `books::pick` hands back.
 fn pick(mut case: Case<'_>) -> Outcome {
-    let set = case.list::<u16, LONGEST>()?;
+    let mut set = List::<u16, LONGEST>::new();
+    case.list(&mut set)?;
     let phase = case.number()?;
     let answered = case.make(|answer| book_calls::bridgenook_pick(set.as_slice(), phase, answer))?;
     answered

@@ -1,13 +1,15 @@
 // The calls of bridgenook's module practice_books.
 use bridgenook::practice_books;
 use stored_cases::cases::{Case, LONGEST};
+use stored_cases::lists::List;
 use stored_cases::verdicts::Outcome;
 
 // A call that copies a practice book, or its decoding table, into lent memory.
 fn copy<F: Fn(&mut [u16], &mut [u64; 8]) -> u32>(mut case: Case<'_>, call: F) -> Outcome
     requires { F.IsAlwaysCallable call }
 {
-    let mut out = case.list::<u16, LONGEST>()?;
+    let mut out = List::<u16, LONGEST>::new();
+    case.list(&mut out)?;
     let answered = case.make(|answer| call(out.as_mut_slice(), answer))?;
     answered.compare(out.as_slice())?.verdict()
 }

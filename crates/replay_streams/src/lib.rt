@@ -3,11 +3,13 @@
 
 use bridgenook::stream_calls;
 use stored_cases::cases::{Case, LONGEST};
+use stored_cases::lists::List;
 use stored_cases::verdicts::Outcome;
 
 fn judge_pairs(mut case: Case<'_>) -> Outcome {
     let lg = case.number()?;
-    let pairs = case.list::<u32, LONGEST>()?;
+    let mut pairs = List::<u32, LONGEST>::new();
+    case.list(&mut pairs)?;
     let answered = case.make(|answer| stream_calls::bridgenook_judge_pairs(
         lg,
         pairs.as_slice(),
@@ -17,10 +19,13 @@ fn judge_pairs(mut case: Case<'_>) -> Outcome {
 }
 
 fn write_pairs(mut case: Case<'_>) -> Outcome {
-    let book = case.list::<u16, LONGEST>()?;
+    let mut book = List::<u16, LONGEST>::new();
+    case.list(&mut book)?;
     let lg = case.number()?;
-    let pairs = case.list::<u32, LONGEST>()?;
-    let mut out = case.list::<u8, LONGEST>()?;
+    let mut pairs = List::<u32, LONGEST>::new();
+    case.list(&mut pairs)?;
+    let mut out = List::<u8, LONGEST>::new();
+    case.list(&mut out)?;
     let answered = case.make(|answer| {
         stream_calls::bridgenook_write_pairs(
             book.as_slice(),
@@ -34,10 +39,13 @@ fn write_pairs(mut case: Case<'_>) -> Outcome {
 }
 
 fn write_window(mut case: Case<'_>) -> Outcome {
-    let book = case.list::<u16, LONGEST>()?;
+    let mut book = List::<u16, LONGEST>::new();
+    case.list(&mut book)?;
     let lg = case.number()?;
-    let window = case.list::<u8, LONGEST>()?;
-    let mut out = case.list::<u8, LONGEST>()?;
+    let mut window = List::<u8, LONGEST>::new();
+    case.list(&mut window)?;
+    let mut out = List::<u8, LONGEST>::new();
+    case.list(&mut out)?;
     let answered = case.make(|answer| {
         stream_calls::bridgenook_write_window(
             book.as_slice(),
@@ -51,12 +59,16 @@ fn write_window(mut case: Case<'_>) -> Outcome {
 }
 
 fn read_pairs(mut case: Case<'_>) -> Outcome {
-    let book = case.list::<u16, LONGEST>()?;
-    let table = case.list::<u16, LONGEST>()?;
+    let mut book = List::<u16, LONGEST>::new();
+    case.list(&mut book)?;
+    let mut table = List::<u16, LONGEST>::new();
+    case.list(&mut table)?;
     let lg = case.number()?;
     let count = case.number()?;
-    let stream = case.list::<u8, LONGEST>()?;
-    let mut out = case.list::<u32, LONGEST>()?;
+    let mut stream = List::<u8, LONGEST>::new();
+    case.list(&mut stream)?;
+    let mut out = List::<u32, LONGEST>::new();
+    case.list(&mut out)?;
     let answered = case.make(|answer| {
         stream_calls::bridgenook_read_pairs(
             book.as_slice(),
@@ -72,11 +84,15 @@ fn read_pairs(mut case: Case<'_>) -> Outcome {
 }
 
 fn read_window(mut case: Case<'_>) -> Outcome {
-    let book = case.list::<u16, LONGEST>()?;
-    let table = case.list::<u16, LONGEST>()?;
+    let mut book = List::<u16, LONGEST>::new();
+    case.list(&mut book)?;
+    let mut table = List::<u16, LONGEST>::new();
+    case.list(&mut table)?;
     let lg = case.number()?;
-    let stream = case.list::<u8, LONGEST>()?;
-    let mut window = case.list::<u8, LONGEST>()?;
+    let mut stream = List::<u8, LONGEST>::new();
+    case.list(&mut stream)?;
+    let mut window = List::<u8, LONGEST>::new();
+    case.list(&mut window)?;
     let answered = case.make(|answer| {
         stream_calls::bridgenook_read_window(
             book.as_slice(),

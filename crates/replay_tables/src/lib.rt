@@ -21,21 +21,26 @@ struct Table {
 
 impl Table {
     fn read(case: &mut Case<'_>) -> Result<Table, NoVerdict> {
-        Ok(Table {
+        let mut table = Table {
             lg: case.number()?,
             valid: case.number()?,
             items: case.number()?,
-            region: case.list::<u32, SLOTS>()?,
-            spare: case.list::<u32, SLOTS>()?,
-        })
+            region: List::new(),
+            spare: List::new(),
+        };
+        case.list(&mut table.region)?;
+        case.list(&mut table.spare)?;
+        Ok(table)
     }
 }
 
 fn new(mut case: Case<'_>) -> Outcome {
     let lg = case.number()?;
     let valid = case.number()?;
-    let mut region = case.list::<u32, SLOTS>()?;
-    let mut spare = case.list::<u32, SLOTS>()?;
+    let mut region = List::<u32, SLOTS>::new();
+    case.list(&mut region)?;
+    let mut spare = List::<u32, SLOTS>::new();
+    case.list(&mut spare)?;
     let answered = case.make(|answer| {
         table_calls::bridgenook_table_new(
             lg,
@@ -95,9 +100,12 @@ fn clear(mut case: Case<'_>) -> Outcome {
 
 fn build(mut case: Case<'_>) -> Outcome {
     let valid = case.number()?;
-    let list = case.list::<u32, SLOTS>()?;
-    let mut region = case.list::<u32, SLOTS>()?;
-    let mut spare = case.list::<u32, SLOTS>()?;
+    let mut list = List::<u32, SLOTS>::new();
+    case.list(&mut list)?;
+    let mut region = List::<u32, SLOTS>::new();
+    case.list(&mut region)?;
+    let mut spare = List::<u32, SLOTS>::new();
+    case.list(&mut spare)?;
     let answered = case.make(|answer| {
         table_calls::bridgenook_table_build(
             valid,
@@ -121,7 +129,8 @@ fn list<F: Fn(u8, u8, u32, &[u32], &[u32], &mut [u32], &mut [u64; 8]) -> u32>(
     requires { F.IsAlwaysCallable call }
 {
     let table = Table::read(&mut case)?;
-    let mut out = case.list::<u32, SLOTS>()?;
+    let mut out = List::<u32, SLOTS>::new();
+    case.list(&mut out)?;
     let answered = case.make(|answer| call(
         table.lg,
         table.valid,

@@ -4,6 +4,7 @@
 
 use bridgenook::union_calls;
 use stored_cases::cases::Case;
+use stored_cases::lists::List;
 use stored_cases::verdicts::Outcome;
 
 // The most rows, and the most pairs, that a case lends or lists.
@@ -13,7 +14,8 @@ const PAIRS: usize = 256;
 
 fn count(mut case: Case<'_>) -> Outcome {
     let lg = case.number()?;
-    let matrix = case.matrix::<ROWS>()?;
+    let mut matrix = List::<u64, ROWS>::new();
+    case.matrix(&mut matrix)?;
     let answered = case.make(|answer| union_calls::bridgenook_count(
         lg,
         matrix.as_slice(),
@@ -24,9 +26,12 @@ fn count(mut case: Case<'_>) -> Outcome {
 
 fn split(mut case: Case<'_>) -> Outcome {
     let lg = case.number()?;
-    let matrix = case.matrix::<ROWS>()?;
-    let mut window = case.list::<u8, ROWS>()?;
-    let mut pairs = case.list::<u32, PAIRS>()?;
+    let mut matrix = List::<u64, ROWS>::new();
+    case.matrix(&mut matrix)?;
+    let mut window = List::<u8, ROWS>::new();
+    case.list(&mut window)?;
+    let mut pairs = List::<u32, PAIRS>::new();
+    case.list(&mut pairs)?;
     let answered = case.make(|answer| {
         union_calls::bridgenook_split(
             lg,
@@ -45,9 +50,12 @@ fn split(mut case: Case<'_>) -> Outcome {
 fn expand(mut case: Case<'_>) -> Outcome {
     let lg = case.number()?;
     let coupons = case.number()?;
-    let window = case.list::<u8, ROWS>()?;
-    let pairs = case.list::<u32, PAIRS>()?;
-    let mut matrix = case.matrix::<ROWS>()?;
+    let mut window = List::<u8, ROWS>::new();
+    case.list(&mut window)?;
+    let mut pairs = List::<u32, PAIRS>::new();
+    case.list(&mut pairs)?;
+    let mut matrix = List::<u64, ROWS>::new();
+    case.matrix(&mut matrix)?;
     let answered = case.make(|answer| {
         union_calls::bridgenook_expand(
             lg,
@@ -64,7 +72,8 @@ fn expand(mut case: Case<'_>) -> Outcome {
 fn new_union(mut case: Case<'_>) -> Outcome {
     let lg = case.number()?;
     let seed = case.number()?;
-    let mut matrix = case.matrix::<ROWS>()?;
+    let mut matrix = List::<u64, ROWS>::new();
+    case.matrix(&mut matrix)?;
     let answered = case.make(|answer| {
         union_calls::bridgenook_new_union(lg, seed, matrix.as_mut_slice(), answer)
     })?;
@@ -75,12 +84,15 @@ fn merge(mut case: Case<'_>) -> Outcome {
     let lg = case.number()?;
     let present = case.number()?;
     let seed = case.number()?;
-    let mut matrix = case.matrix::<ROWS>()?;
+    let mut matrix = List::<u64, ROWS>::new();
+    case.matrix(&mut matrix)?;
     let from = case.number()?;
     let other = case.number()?;
     let coupons = case.number()?;
-    let window = case.list::<u8, ROWS>()?;
-    let pairs = case.list::<u32, PAIRS>()?;
+    let mut window = List::<u8, ROWS>::new();
+    case.list(&mut window)?;
+    let mut pairs = List::<u32, PAIRS>::new();
+    case.list(&mut pairs)?;
     let answered = case.make(|answer| {
         union_calls::bridgenook_merge(
             lg,

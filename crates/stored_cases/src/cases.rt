@@ -4,8 +4,7 @@ ghost use Rattle.std.specs.Io.{StartsWith};
 ghost use Rattle.stored_cases.specs.declared.verdicts.NoVerdict.TheVariants.{NotACase};
 ghost use Rattle.stored_cases.specs.declared.verdicts.Verdict.TheVariants.{Agrees};
 
-use super::lists;
-use super::lists::List;
+use super::lists::{List, is_list};
 use super::numbers::decimal;
 use super::verdicts::{NoVerdict, Outcome, Verdict};
 use std::str;
@@ -95,24 +94,23 @@ impl<'a> Case<'a> {
         decimal(self.next_input()?).ok_or(NoVerdict::NotACase)
     }
 
-    // The next input, a list of at most so many numbers.
-    pub fn list<T: TryFrom<u64> + Default + Drop, const MOST: usize>(
+    // The next input, a list: it becomes that, where it has room for it.
+    pub fn list<T: TryFrom<u64> + Drop, const MOST: usize>(
         &mut self,
-    ) -> Result<List<T, MOST>, NoVerdict>
+        list: &mut List<T, MOST>,
+    ) -> Result<(), NoVerdict>
     where
         T::Error: Drop,
         ensures { IfErr result (λ why. why ≡ NotACase) }
     {
-        lists::read_as(self.next_input()?)
+        list.read_as(self.next_input()?)
     }
 
-    // The next input, a matrix of at most so many rows: it has no more of them while it is read, either.
-    pub fn matrix<const MOST: usize>(&mut self) -> Result<List<u64, MOST>, NoVerdict>
+    // The next input, a matrix: as a list, but it has no more rows than there is room for while it is read, either.
+    pub fn matrix<const MOST: usize>(&mut self, rows: &mut List<u64, MOST>) -> Result<(), NoVerdict>
         ensures { IfErr result (λ why. why ≡ NotACase) }
     {
-        let mut rows = List::new();
-        rows.read(self.next_input()?)?;
-        Ok(rows)
+        rows.read(self.next_input()?)
     }
 
     // Makes the call, once all inputs were given out, and compares what it answered.
@@ -143,10 +141,7 @@ impl<'a> Answered<'a> {
         ensures no_case { IfErr result (λ why. why ≡ NotACase) }
     {
         let (list, others) = cut_at(self.lists.ok_or(NoVerdict::NotACase)?, " ; ");
-        let mut stored = List::<u64, LONGEST>::new();
-        stored.read(list)?;
-        let wide = lent.iter().map(|entry| u64::from(*entry));
-        let agrees = stored.as_slice().iter().copied().eq(wide);
+        let agrees = is_list(list, lent)?;
         Ok(Answered {
             so_far: self.so_far.and(Verdict::from(agrees)),
             lists: others,

@@ -36,7 +36,7 @@ impl<T, const ROOM: usize> List<T, ROOM> {
 
 impl<T: Default, const ROOM: usize> List<T, ROOM> {
     // No numbers.
-    pub(crate) fn new() -> List<T, ROOM>
+    pub fn new() -> List<T, ROOM>
         ensures { result.length ≡ 0 }
     {
         List {
@@ -44,13 +44,6 @@ impl<T: Default, const ROOM: usize> List<T, ROOM> {
             length: 0,
         }
     }
-}
-
-// The practice window book's decoding table has no constant: the library fills it.
-fn window_table() -> Option<[u16; 4096]> {
-    let mut table = [0; 4096];
-    books::fill_table(&practice::window_book(), &mut table).ok()?;
-    Some(table)
 }
 
 // What the items read so far make.
@@ -85,8 +78,19 @@ impl<const ROOM: usize> List<u64, ROOM> {
         Ok(())
     }
 
+    // Not inlined, here and below: else the 8 KiB of a table are filled for every item.
+    #[inline(never)]
+    fn push_pair_table(&mut self) -> Result<(), NoVerdict> {
+        self.push_all(&practice::pair_table())
+    }
+
+    // The practice window book's decoding table has no constant: the library fills it.
+    #[inline(never)]
     fn push_window_table(&mut self) -> Result<(), NoVerdict> {
-        let table = window_table().ok_or(NoVerdict::NotACase)?;
+        let mut table = [0; 4096];
+        if books::fill_table(&practice::window_book(), &mut table).is_err() {
+            return Err(NoVerdict::NotACase);
+        }
         self.push_all(&table)
     }
 
@@ -122,15 +126,14 @@ impl<const ROOM: usize> List<u64, ROOM> {
             Item::Put { place, value } => self.put(place, value),
             Item::PairBook => self.push_all(&practice::pair_book()),
             Item::WindowBook => self.push_all(&practice::window_book()),
-            Item::PairTable => self.push_all(&practice::pair_table()),
+            Item::PairTable => self.push_pair_table(),
             Item::WindowTable => self.push_window_table(),
         }
     }
 
-    // Puts the list that `text` is behind what is there. On the way, too, there are never more than so many numbers.
-    pub(crate) fn read(&mut self, text: &str) -> Result<(), NoVerdict>
-        ensures { IfErr result (λ why. why ≡ NotACase) }
-    {
+    // Becomes the list that `text` is. On the way, too, there are never more than so many numbers.
+    pub(crate) fn read(&mut self, text: &str) -> Result<(), NoVerdict> {
+        self.length = 0;
         if text != "-" {
             for item in text.split(',') {
                 self.take(item.parse()?)?;
@@ -140,35 +143,45 @@ impl<const ROOM: usize> List<u64, ROOM> {
     }
 }
 
-// The same numbers, where there are at most so many and each fits.
-fn narrow<T: TryFrom<u64> + Default + Drop, const MOST: usize>(
-    wide: &[u64],
-) -> Result<List<T, MOST>, NoVerdict>
+impl<T: TryFrom<u64> + Drop, const MOST: usize> List<T, MOST>
 where
     T::Error: Drop,
-    ensures all { IfOk result (λ list. list.length ≡ length wide.now) }
-    ensures no_case { IfErr result (λ why. why ≡ NotACase) }
 {
-    if wide.len() > MOST {
-        return Err(NoVerdict::NotACase);
+    // Becomes the same numbers, where there are at most so many and each fits.
+    fn narrow(&mut self, wide: &[u64]) -> Result<(), NoVerdict>
+        ensures { OnOk result (self.new.length ≡ length wide.now) }
+    {
+        if wide.len() > MOST {
+            return Err(NoVerdict::NotACase);
+        }
+        for (place, entry) in self.entries.iter_mut().zip(wide) {
+            *place = T::try_from(*entry).map_err(|_| NoVerdict::NotACase)?;
+        }
+        self.length = wide.len();
+        Ok(())
     }
-    let mut list = List::<T, MOST>::new();
-    for (place, entry) in list.entries.iter_mut().zip(wide) {
-        *place = T::try_from(*entry).map_err(|_| NoVerdict::NotACase)?;
+
+    // Becomes the list that `text` is, where it is at most so long and each number fits. On the way it may be longer.
+    pub(crate) fn read_as(&mut self, text: &str) -> Result<(), NoVerdict> {
+        let mut wide = List {
+            entries: [0; LONGEST],
+            length: 0,
+        };
+        wide.read(text)?;
+        self.narrow(wide.as_slice())
     }
-    list.length = wide.len();
-    Ok(list)
 }
 
-// The list that `text` is, where it is at most so long and each number fits.
-pub(crate) fn read_as<T: TryFrom<u64> + Default + Drop, const MOST: usize>(
-    text: &str,
-) -> Result<List<T, MOST>, NoVerdict>
+// Whether the list that `text` is holds just the numbers that were lent.
+pub(crate) fn is_list<T: Copy>(text: &str, lent: &[T]) -> Result<bool, NoVerdict>
 where
-    T::Error: Drop,
-    ensures { IfErr result (λ why. why ≡ NotACase) }
+    u64: From<T>,
 {
-    let mut wide = List::<u64, LONGEST>::new();
+    let mut wide = List {
+        entries: [0; LONGEST],
+        length: 0,
+    };
     wide.read(text)?;
-    narrow(wide.as_slice())
+    let numbers = lent.iter().map(|entry| u64::from(*entry));
+    Ok(wide.as_slice().iter().copied().eq(numbers))
 }

@@ -1,4 +1,5 @@
 use super::cases::{Case, LONGEST};
+use super::lists::List;
 use super::verdicts::{NoVerdict, Outcome, Verdict};
 use std::test::Fail;
 
@@ -9,8 +10,10 @@ fn sevens(line: &str) -> Outcome {
         return Err(NoVerdict::NotACase);
     }
     let number = case.number::<u8>()?;
-    let bytes = case.list::<u8, 4>()?;
-    let rows = case.matrix::<4>()?;
+    let mut bytes = List::<u8, 4>::new();
+    case.list(&mut bytes)?;
+    let mut rows = List::<u64, 4>::new();
+    case.matrix(&mut rows)?;
     case.make(|answer| {
         *answer = [u64::from(number), 0, 0, 0, 0, 0, 0, 0];
         0
@@ -67,7 +70,8 @@ fn judges_a_line(rt: HostRuntime) -> Result<(), Fail> {
 fn takes_the_longest_list(rt: HostRuntime) -> Result<(), Fail> {
     let line = b"- windowtable,pairtable = 0 0 0";
     let mut case = Case::read(line).ok_or("a case")?;
-    let list = case.list::<u16, LONGEST>();
-    assert_eq!(rt; list.map(|entries| entries.as_slice().len()), Ok(8192));
+    let mut list = List::<u16, LONGEST>::new();
+    let read = case.list(&mut list);
+    assert_eq!(rt; read.map(|()| list.as_slice().len()), Ok(8192));
     Ok(())
 }
