@@ -6,8 +6,7 @@ use std::fs::File;
 use std::io;
 use std::io::Read;
 use std::rt::Files;
-use stored_cases::cases::Case;
-use stored_cases::verdicts::{NoVerdict, Outcome, Verdict};
+use stored_cases::verdicts::{NoVerdict, Verdict};
 
 // The most bytes of a file that is read.
 const LONGEST: usize = 262144;
@@ -62,10 +61,6 @@ fn load<R: Files>(rt: &R, name: &str, text: &mut [u8]) -> Option<usize>
     is_at_end(&mut file).then_some(end)
 }
 
-fn judge(line: &[u8]) -> Outcome {
-    calls::run(Case::read(line).ok_or(NoVerdict::NotACase)?)
-}
-
 // What comes of the line, where it is a case.
 fn replay_line<R: Print>(
     rt: &R,
@@ -73,7 +68,7 @@ fn replay_line<R: Print>(
     number: usize,
     line: &[u8],
 ) -> io::Result<Option<Verdict>> {
-    match judge(line) {
+    match calls::run(line) {
         Ok(Verdict::Agrees) => Ok(Some(Verdict::Agrees)),
         Ok(Verdict::Disagrees) => {
             println!(rt; "{name} line {number}: disagrees")?;

@@ -8,6 +8,7 @@ use stored_cases::cases::Case;
 use stored_cases::verdicts::Outcome;
 
 // `None`: its call is none of these.
-pub fn run(case: Case<'_>) -> Option<Outcome> {
+pub fn run(line: &[u8]) -> Option<Outcome> {
+    let case = Case::read(line);
     book_calls::run(case).or_else(|| practice_calls::run(case))
 }

@@ -107,7 +107,8 @@ fn read_window(mut case: Case<'_>) -> Outcome {
 }
 
 // `None`: its call is none of these.
-pub fn run(case: Case<'_>) -> Option<Outcome> {
+pub fn run(line: &[u8]) -> Option<Outcome> {
+    let case = Case::read(line);
     let outcome = match case.name {
         "judge_pairs" => judge_pairs(case),
         "write_pairs" => write_pairs(case),

@@ -144,7 +144,8 @@ fn list<F: Fn(u8, u8, u32, &[u32], &[u32], &mut [u32], &mut [u64; 8]) -> u32>(
 }
 
 // `None`: its call is none of these.
-pub fn run(case: Case<'_>) -> Option<Outcome> {
+pub fn run(line: &[u8]) -> Option<Outcome> {
+    let case = Case::read(line);
     let outcome = match case.name {
         "table_new" => new(case),
         "table_insert" => change(case, table_calls::bridgenook_table_insert),

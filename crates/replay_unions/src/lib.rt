@@ -111,7 +111,8 @@ fn merge(mut case: Case<'_>) -> Outcome {
 }
 
 // `None`: its call is none of these.
-pub fn run(case: Case<'_>) -> Option<Outcome> {
+pub fn run(line: &[u8]) -> Option<Outcome> {
+    let case = Case::read(line);
     let outcome = match case.name {
         "count" => count(case),
         "split" => split(case),

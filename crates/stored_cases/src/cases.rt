@@ -1,5 +1,5 @@
-// A line that is a case: its inputs, given out in turn; and behind the call what is stored of its answer and of the memory that it was lent.
-ghost use Rattle.std.specs.Prelude.{◌≡◌, IfSome, IfOk, IfErr};
+// What a line has of a case: its inputs, given out in turn; and behind the call what is stored of its answer and of the memory that it was lent.
+ghost use Rattle.std.specs.Prelude.{◌≡◌, IfOk, IfErr};
 ghost use Rattle.std.specs.Io.{StartsWith};
 ghost use Rattle.stored_cases.specs.declared.verdicts.NoVerdict.TheVariants.{NotACase};
 ghost use Rattle.stored_cases.specs.declared.verdicts.Verdict.TheVariants.{Agrees};
@@ -20,10 +20,8 @@ const UNWRITTEN: [u64; 8] = [0xA5A5_A5A5_A5A5_A5A5; 8];
 pub struct Case<'a> {
     // which call it is
     pub name: &'a str,
-    // the inputs that were not given out yet
-    inputs: Option<&'a str>,
-    // the numbers, and then the lists
-    stored: &'a str,
+    // what stands behind that, and was not given out yet
+    rest: Option<&'a str>,
 }
 
 // A case whose call was made.
@@ -45,6 +43,14 @@ fn cut_at<'a>(text: &'a str, mark: &str) -> (&'a str, Option<&'a str>)
     }
 }
 
+// The first word of the line; nothing, where that is no text.
+fn first_word(line: &[u8]) -> &str
+    ensures { StartsWith line.now result.now }
+{
+    let word = line.split(|byte| *byte == b' ').next().unwrap_or(b"");
+    str::from_utf8(word).unwrap_or("")
+}
+
 // The stored numbers: three to nine, and 0 for those left out.
 fn stored_numbers(text: &str) -> Option<[u64; 9]> {
     if !(3..=9).contains(&text.split(' ').count()) {
@@ -63,26 +69,23 @@ fn compare_numbers(stored: &[u64; 9], res: u32, answer: &[u64; 8]) -> Verdict {
 }
 
 impl<'a> Case<'a> {
-    // The case that the line is, or `None`. (What is not UTF-8 is none: its words are ASCII.)
-    pub fn read(line: &'a [u8]) -> Option<Case<'a>>
-        ensures { IfSome result (λ case. StartsWith line.now case.name.now) }
+    // What any line has of a case: a name, if an empty one, and what stands behind it. Whether it is a case shows as that is given out and compared. (Of a line that
+    // is not UTF-8 only the first word is read, for a case's words are ASCII.)
+    pub fn read(line: &'a [u8]) -> Case<'a>
+        ensures { StartsWith line.now result.name.now }
     {
-        let (call, stored) = str::from_utf8(line).ok()?.split_once(" = ")?;
-        let (name, inputs) = cut_at(call, " ");
-        Some(Case {
-            name,
-            inputs,
-            stored,
-        })
+        let text = str::from_utf8(line).unwrap_or_else(|_| first_word(line));
+        let (name, rest) = cut_at(text, " ");
+        Case { name, rest }
     }
 
-    fn next_input(&mut self) -> Result<&'a str, NoVerdict>
+    fn next_word(&mut self) -> Result<&'a str, NoVerdict>
         ensures { IfErr result (λ why. why ≡ NotACase) }
     {
-        let inputs = self.inputs.ok_or(NoVerdict::NotACase)?;
-        let (first, others) = cut_at(inputs, " ");
-        self.inputs = others;
-        Ok(first)
+        let rest = self.rest.ok_or(NoVerdict::NotACase)?;
+        let (word, others) = cut_at(rest, " ");
+        self.rest = others;
+        Ok(word)
     }
 
     // The next input, a number.
@@ -91,7 +94,7 @@ impl<'a> Case<'a> {
         T::Err: Drop,
         ensures { IfErr result (λ why. why ≡ NotACase) }
     {
-        decimal(self.next_input()?).ok_or(NoVerdict::NotACase)
+        decimal(self.next_word()?).ok_or(NoVerdict::NotACase)
     }
 
     // The next input, a list: it becomes that, where it has room for it.
@@ -103,27 +106,31 @@ impl<'a> Case<'a> {
         T::Error: Drop,
         ensures { IfErr result (λ why. why ≡ NotACase) }
     {
-        list.read_as(self.next_input()?)
+        list.read_as(self.next_word()?)
     }
 
     // The next input, a matrix: as a list, but it has no more rows than there is room for while it is read, either.
     pub fn matrix<const MOST: usize>(&mut self, rows: &mut List<u64, MOST>) -> Result<(), NoVerdict>
         ensures { IfErr result (λ why. why ≡ NotACase) }
     {
-        rows.read(self.next_input()?)
+        rows.read(self.next_word()?)
     }
 
     // Makes the call, once all inputs were given out, and compares what it answered.
-    pub fn make<F: FnOnce(&mut [u64; 8]) -> u32>(self, call: F) -> Result<Answered<'a>, NoVerdict>
+    pub fn make<F: FnOnce(&mut [u64; 8]) -> u32>(
+        mut self,
+        call: F,
+    ) -> Result<Answered<'a>, NoVerdict>
         requires { F.IsAlwaysCallable call }
         ensures { IfErr result (λ why. why ≡ NotACase) }
     {
-        let mut answer = UNWRITTEN;
-        let result = call(&mut answer);
-        if self.inputs.is_some() {
+        if self.next_word()? != "=" {
             return Err(NoVerdict::NotACase);
         }
-        let (numbers, lists) = cut_at(self.stored, " ; ");
+        let stored = self.rest.ok_or(NoVerdict::NotACase)?;
+        let mut answer = UNWRITTEN;
+        let result = call(&mut answer);
+        let (numbers, lists) = cut_at(stored, " ; ");
         let stored = stored_numbers(numbers).ok_or(NoVerdict::NotACase)?;
         Ok(Answered {
             so_far: compare_numbers(&stored, result, &answer),

@@ -1,6 +1,5 @@
 // Lists: items that commas part, read from left to right. `-` alone is the empty list.
-ghost use Rattle.std.specs.Prelude.{◌≡◌, ◌<◌, ◌≤◌, length, IfOk, IfErr, OnOk};
-ghost use Rattle.stored_cases.specs.declared.verdicts.NoVerdict.TheVariants.{NotACase};
+ghost use Rattle.std.specs.Prelude.{◌≡◌, ◌<◌, ◌≤◌, length, take, OnOk};
 
 use super::cases::LONGEST;
 use super::items::Item;
@@ -18,6 +17,7 @@ pub struct List<T, const ROOM: usize> {
 impl<T, const ROOM: usize> List<T, ROOM> {
     // The numbers of the list, and nothing that is left over behind them.
     pub fn as_slice(&self) -> &[T]
+        ensures value { result.now ≡ take self.now.length self.now.entries }
         ensures all { length result.now ≡ self.now.length }
         ensures few { length result.now ≤ ROOM }
     {
@@ -25,6 +25,7 @@ impl<T, const ROOM: usize> List<T, ROOM> {
     }
 
     pub fn as_mut_slice(&mut self) -> &mut [T]
+        ensures value { result.now ≡ take self.old.length self.old.entries }
         ensures all { length result.now ≡ self.old.length }
         ensures few { length result.now ≤ ROOM }
     {

@@ -3,9 +3,9 @@ use super::lists::List;
 use super::verdicts::{NoVerdict, Outcome, Verdict};
 use std::test::Fail;
 
-// A made-up call: `answer` begins with its number, and the lent list becomes that many sevens. It answers 0.
-fn sevens(line: &str) -> Outcome {
-    let mut case = Case::read(line.as_bytes()).ok_or(NoVerdict::NotACase)?;
+// A made-up call: `answer` begins with its number, and the lent list becomes sevens. It answers 0.
+fn sevens(line: &[u8]) -> Outcome {
+    let mut case = Case::read(line);
     if case.name != "sevens" {
         return Err(NoVerdict::NotACase);
     }
@@ -16,6 +16,7 @@ fn sevens(line: &str) -> Outcome {
     case.matrix(&mut rows)?;
     case.make(|answer| {
         *answer = [u64::from(number), 0, 0, 0, 0, 0, 0, 0];
+        bytes.as_mut_slice().fill(7);
         0
     })?
     .compare(bytes.as_slice())?
@@ -28,6 +29,7 @@ fn judges_a_line(rt: HostRuntime) -> Result<(), Fail> {
     let lines = [
         ("sevens 7 7x4 - = 0 7 0 ; 7,7,7x2 ; -", Ok(Verdict::Agrees)),
         ("sevens 7 7 3~2 = 0 7 0 ; 7 ; 3,4", Ok(Verdict::Agrees)),
+        ("sevens 7 1,2 - = 0 7 0 ; 7,7 ; -", Ok(Verdict::Agrees)),
         (
             "sevens 7 7 1x4,/2,@1:9 = 0 7 0 ; 7 ; 1,9",
             Ok(Verdict::Agrees),
@@ -59,9 +61,29 @@ fn judges_a_line(rt: HostRuntime) -> Result<(), Fail> {
         ),
         ("sevens 7 7 - = 0 7 0 ; 7", Err(NoVerdict::NotACase)),
         ("sevens 7 7 - = 0 7 0 ; 7 ; - ; -", Err(NoVerdict::NotACase)),
+        // nothing stored
+        ("sevens 7 7 -", Err(NoVerdict::NotACase)),
     ];
     for (line, wanted) in lines {
-        assert_eq!(rt; sevens(line), wanted, "at {line}");
+        assert_eq!(rt; sevens(line.as_bytes()), wanted, "at {line}");
+    }
+    Ok(())
+}
+
+#[test]
+fn names_any_line(rt: HostRuntime) -> Result<(), Fail> {
+    let lines: [(&[u8], &str); 7] = [
+        (b"", ""),
+        (b" = 0 7 0", ""),
+        (b"sevens", "sevens"),
+        (b"sevens 7 7 -", "sevens"),
+        (b"sevens = 0 7 0", "sevens"),
+        (b"sevens \xff = 0 7 0", "sevens"),
+        (b"sevens\xff 7 7 - = 0 7 0 ; 7 ; -", ""),
+    ];
+    for (place, (line, name)) in lines.into_iter().enumerate() {
+        assert_eq!(rt; Case::read(line).name, name, "line {place}");
+        assert_eq!(rt; sevens(line), Err(NoVerdict::NotACase), "line {place}");
     }
     Ok(())
 }
@@ -69,7 +91,7 @@ fn judges_a_line(rt: HostRuntime) -> Result<(), Fail> {
 #[test]
 fn takes_the_longest_list(rt: HostRuntime) -> Result<(), Fail> {
     let line = b"- windowtable,pairtable = 0 0 0";
-    let mut case = Case::read(line).ok_or("a case")?;
+    let mut case = Case::read(line);
     let mut list = List::<u16, LONGEST>::new();
     let read = case.list(&mut list);
     assert_eq!(rt; read.map(|()| list.as_slice().len()), Ok(8192));
