@@ -1,14 +1,15 @@
 // The calls of bridgenook's module book_calls.
 use bridgenook::book_calls;
-use stored_cases::cases::{Case, LONGEST};
+use stored_cases::cases::{Case, LONGEST, UNWRITTEN};
 use stored_cases::lists::List;
 use stored_cases::verdicts::Outcome;
 
 fn check_book(mut case: Case<'_>) -> Outcome {
     let mut book = List::<u16, LONGEST>::new();
     case.list(&mut book)?;
-    let answered = case.make(|answer| book_calls::bridgenook_check_book(book.as_slice(), answer))?;
-    answered.verdict()
+    let mut answer = UNWRITTEN;
+    let result = book_calls::bridgenook_check_book(book.as_slice(), &mut answer);
+    case.answered(result, &answer)?.verdict()
 }
 
 fn check_table(mut case: Case<'_>) -> Outcome {
@@ -16,12 +17,9 @@ fn check_table(mut case: Case<'_>) -> Outcome {
     case.list(&mut book)?;
     let mut table = List::<u16, LONGEST>::new();
     case.list(&mut table)?;
-    let answered = case.make(|answer| book_calls::bridgenook_check_table(
-        book.as_slice(),
-        table.as_slice(),
-        answer,
-    ))?;
-    answered.verdict()
+    let mut answer = UNWRITTEN;
+    let result = book_calls::bridgenook_check_table(book.as_slice(), table.as_slice(), &mut answer);
+    case.answered(result, &answer)?.verdict()
 }
 
 fn fill_table(mut case: Case<'_>) -> Outcome {
@@ -29,10 +27,15 @@ fn fill_table(mut case: Case<'_>) -> Outcome {
     case.list(&mut book)?;
     let mut table = List::<u16, LONGEST>::new();
     case.list(&mut table)?;
-    let answered = case.make(|answer| {
-        book_calls::bridgenook_fill_table(book.as_slice(), table.as_mut_slice(), answer)
-    })?;
-    answered.compare(table.as_slice())?.verdict()
+    let mut answer = UNWRITTEN;
+    let result = book_calls::bridgenook_fill_table(
+        book.as_slice(),
+        table.as_mut_slice(),
+        &mut answer,
+    );
+    case.answered(result, &answer)?
+        .compare(table.as_slice())?
+        .verdict()
 }
 
 // The list behind the numbers is the part that `books::pick` hands back.
@@ -40,8 +43,9 @@ fn pick(mut case: Case<'_>) -> Outcome {
     let mut set = List::<u16, LONGEST>::new();
     case.list(&mut set)?;
     let phase = case.number()?;
-    let answered = case.make(|answer| book_calls::bridgenook_pick(set.as_slice(), phase, answer))?;
-    answered
+    let mut answer = UNWRITTEN;
+    let result = book_calls::bridgenook_pick(set.as_slice(), phase, &mut answer);
+    case.answered(result, &answer)?
         .compare(books::pick(set.as_slice(), phase))?
         .verdict()
 }

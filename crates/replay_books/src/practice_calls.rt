@@ -1,6 +1,6 @@
 // The calls of bridgenook's module practice_books.
 use bridgenook::practice_books;
-use stored_cases::cases::{Case, LONGEST};
+use stored_cases::cases::{Case, LONGEST, UNWRITTEN};
 use stored_cases::lists::List;
 use stored_cases::verdicts::Outcome;
 
@@ -10,8 +10,11 @@ fn copy<F: Fn(&mut [u16], &mut [u64; 8]) -> u32>(mut case: Case<'_>, call: F) ->
 {
     let mut out = List::<u16, LONGEST>::new();
     case.list(&mut out)?;
-    let answered = case.make(|answer| call(out.as_mut_slice(), answer))?;
-    answered.compare(out.as_slice())?.verdict()
+    let mut answer = UNWRITTEN;
+    let result = call(out.as_mut_slice(), &mut answer);
+    case.answered(result, &answer)?
+        .compare(out.as_slice())?
+        .verdict()
 }
 
 pub fn run(case: Case<'_>) -> Option<Outcome> {

@@ -1,12 +1,13 @@
 // The calls of bridgenook's module number_calls.
 use bridgenook::number_calls;
-use stored_cases::cases::Case;
+use stored_cases::cases::{Case, UNWRITTEN};
 use stored_cases::verdicts::Outcome;
 
 fn rows(mut case: Case<'_>) -> Outcome {
     let lg = case.number()?;
-    let answered = case.make(|answer| number_calls::bridgenook_rows(lg, answer))?;
-    answered.verdict()
+    let mut answer = UNWRITTEN;
+    let result = number_calls::bridgenook_rows(lg, &mut answer);
+    case.answered(result, &answer)?.verdict()
 }
 
 // A call on an lg_k and a count of coupons or of pairs.
@@ -15,8 +16,9 @@ fn on_count<F: Fn(u8, u32, &mut [u64; 8]) -> u32>(mut case: Case<'_>, call: F) -
 {
     let lg = case.number()?;
     let count = case.number()?;
-    let answered = case.make(|answer| call(lg, count, answer))?;
-    answered.verdict()
+    let mut answer = UNWRITTEN;
+    let result = call(lg, count, &mut answer);
+    case.answered(result, &answer)?.verdict()
 }
 
 pub fn run(case: Case<'_>) -> Option<Outcome> {

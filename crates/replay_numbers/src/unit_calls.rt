@@ -1,6 +1,6 @@
 // The calls of bridgenook's module unit_counts.
 use bridgenook::unit_counts;
-use stored_cases::cases::Case;
+use stored_cases::cases::{Case, UNWRITTEN};
 use stored_cases::verdicts::Outcome;
 
 // A call on a number of bits or of words.
@@ -8,8 +8,9 @@ fn convert<F: Fn(u64, &mut [u64; 8]) -> u32>(mut case: Case<'_>, call: F) -> Out
     requires { F.IsAlwaysCallable call }
 {
     let count = case.number()?;
-    let answered = case.make(|answer| call(count, answer))?;
-    answered.verdict()
+    let mut answer = UNWRITTEN;
+    let result = call(count, &mut answer);
+    case.answered(result, &answer)?.verdict()
 }
 
 pub fn run(case: Case<'_>) -> Option<Outcome> {

@@ -2,7 +2,7 @@
 #![tactic(auto)]
 
 use bridgenook::stream_calls;
-use stored_cases::cases::{Case, LONGEST};
+use stored_cases::cases::{Case, LONGEST, UNWRITTEN};
 use stored_cases::lists::List;
 use stored_cases::verdicts::Outcome;
 
@@ -10,12 +10,9 @@ fn judge_pairs(mut case: Case<'_>) -> Outcome {
     let lg = case.number()?;
     let mut pairs = List::<u32, LONGEST>::new();
     case.list(&mut pairs)?;
-    let answered = case.make(|answer| stream_calls::bridgenook_judge_pairs(
-        lg,
-        pairs.as_slice(),
-        answer,
-    ))?;
-    answered.verdict()
+    let mut answer = UNWRITTEN;
+    let result = stream_calls::bridgenook_judge_pairs(lg, pairs.as_slice(), &mut answer);
+    case.answered(result, &answer)?.verdict()
 }
 
 fn write_pairs(mut case: Case<'_>) -> Outcome {
@@ -26,16 +23,17 @@ fn write_pairs(mut case: Case<'_>) -> Outcome {
     case.list(&mut pairs)?;
     let mut out = List::<u8, LONGEST>::new();
     case.list(&mut out)?;
-    let answered = case.make(|answer| {
-        stream_calls::bridgenook_write_pairs(
-            book.as_slice(),
-            lg,
-            pairs.as_slice(),
-            out.as_mut_slice(),
-            answer,
-        )
-    })?;
-    answered.compare(out.as_slice())?.verdict()
+    let mut answer = UNWRITTEN;
+    let result = stream_calls::bridgenook_write_pairs(
+        book.as_slice(),
+        lg,
+        pairs.as_slice(),
+        out.as_mut_slice(),
+        &mut answer,
+    );
+    case.answered(result, &answer)?
+        .compare(out.as_slice())?
+        .verdict()
 }
 
 fn write_window(mut case: Case<'_>) -> Outcome {
@@ -46,16 +44,17 @@ fn write_window(mut case: Case<'_>) -> Outcome {
     case.list(&mut window)?;
     let mut out = List::<u8, LONGEST>::new();
     case.list(&mut out)?;
-    let answered = case.make(|answer| {
-        stream_calls::bridgenook_write_window(
-            book.as_slice(),
-            lg,
-            window.as_slice(),
-            out.as_mut_slice(),
-            answer,
-        )
-    })?;
-    answered.compare(out.as_slice())?.verdict()
+    let mut answer = UNWRITTEN;
+    let result = stream_calls::bridgenook_write_window(
+        book.as_slice(),
+        lg,
+        window.as_slice(),
+        out.as_mut_slice(),
+        &mut answer,
+    );
+    case.answered(result, &answer)?
+        .compare(out.as_slice())?
+        .verdict()
 }
 
 fn read_pairs(mut case: Case<'_>) -> Outcome {
@@ -69,18 +68,19 @@ fn read_pairs(mut case: Case<'_>) -> Outcome {
     case.list(&mut stream)?;
     let mut out = List::<u32, LONGEST>::new();
     case.list(&mut out)?;
-    let answered = case.make(|answer| {
-        stream_calls::bridgenook_read_pairs(
-            book.as_slice(),
-            table.as_slice(),
-            lg,
-            count,
-            stream.as_slice(),
-            out.as_mut_slice(),
-            answer,
-        )
-    })?;
-    answered.compare(out.as_slice())?.verdict()
+    let mut answer = UNWRITTEN;
+    let result = stream_calls::bridgenook_read_pairs(
+        book.as_slice(),
+        table.as_slice(),
+        lg,
+        count,
+        stream.as_slice(),
+        out.as_mut_slice(),
+        &mut answer,
+    );
+    case.answered(result, &answer)?
+        .compare(out.as_slice())?
+        .verdict()
 }
 
 fn read_window(mut case: Case<'_>) -> Outcome {
@@ -93,17 +93,18 @@ fn read_window(mut case: Case<'_>) -> Outcome {
     case.list(&mut stream)?;
     let mut window = List::<u8, LONGEST>::new();
     case.list(&mut window)?;
-    let answered = case.make(|answer| {
-        stream_calls::bridgenook_read_window(
-            book.as_slice(),
-            table.as_slice(),
-            lg,
-            stream.as_slice(),
-            window.as_mut_slice(),
-            answer,
-        )
-    })?;
-    answered.compare(window.as_slice())?.verdict()
+    let mut answer = UNWRITTEN;
+    let result = stream_calls::bridgenook_read_window(
+        book.as_slice(),
+        table.as_slice(),
+        lg,
+        stream.as_slice(),
+        window.as_mut_slice(),
+        &mut answer,
+    );
+    case.answered(result, &answer)?
+        .compare(window.as_slice())?
+        .verdict()
 }
 
 // `None`: its call is none of these.

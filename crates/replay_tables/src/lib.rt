@@ -2,7 +2,7 @@
 #![tactic(auto)]
 
 use bridgenook::table_calls;
-use stored_cases::cases::Case;
+use stored_cases::cases::{Case, UNWRITTEN};
 use stored_cases::lists::List;
 use stored_cases::verdicts::{NoVerdict, Outcome};
 
@@ -41,16 +41,15 @@ fn new(mut case: Case<'_>) -> Outcome {
     case.list(&mut region)?;
     let mut spare = List::<u32, SLOTS>::new();
     case.list(&mut spare)?;
-    let answered = case.make(|answer| {
-        table_calls::bridgenook_table_new(
-            lg,
-            valid,
-            region.as_mut_slice(),
-            spare.as_mut_slice(),
-            answer,
-        )
-    })?;
-    answered
+    let mut answer = UNWRITTEN;
+    let result = table_calls::bridgenook_table_new(
+        lg,
+        valid,
+        region.as_mut_slice(),
+        spare.as_mut_slice(),
+        &mut answer,
+    );
+    case.answered(result, &answer)?
         .compare(region.as_slice())?
         .compare(spare.as_slice())?
         .verdict()
@@ -65,16 +64,17 @@ fn change<F: Fn(u8, u8, u32, &mut [u32], &mut [u32], u32, &mut [u64; 8]) -> u32>
 {
     let mut table = Table::read(&mut case)?;
     let item = case.number()?;
-    let answered = case.make(|answer| call(
+    let mut answer = UNWRITTEN;
+    let result = call(
         table.lg,
         table.valid,
         table.items,
         table.region.as_mut_slice(),
         table.spare.as_mut_slice(),
         item,
-        answer,
-    ))?;
-    answered
+        &mut answer,
+    );
+    case.answered(result, &answer)?
         .compare(table.region.as_slice())?
         .compare(table.spare.as_slice())?
         .verdict()
@@ -82,17 +82,16 @@ fn change<F: Fn(u8, u8, u32, &mut [u32], &mut [u32], u32, &mut [u64; 8]) -> u32>
 
 fn clear(mut case: Case<'_>) -> Outcome {
     let mut table = Table::read(&mut case)?;
-    let answered = case.make(|answer| {
-        table_calls::bridgenook_table_clear(
-            table.lg,
-            table.valid,
-            table.items,
-            table.region.as_mut_slice(),
-            table.spare.as_mut_slice(),
-            answer,
-        )
-    })?;
-    answered
+    let mut answer = UNWRITTEN;
+    let result = table_calls::bridgenook_table_clear(
+        table.lg,
+        table.valid,
+        table.items,
+        table.region.as_mut_slice(),
+        table.spare.as_mut_slice(),
+        &mut answer,
+    );
+    case.answered(result, &answer)?
         .compare(table.region.as_slice())?
         .compare(table.spare.as_slice())?
         .verdict()
@@ -106,16 +105,15 @@ fn build(mut case: Case<'_>) -> Outcome {
     case.list(&mut region)?;
     let mut spare = List::<u32, SLOTS>::new();
     case.list(&mut spare)?;
-    let answered = case.make(|answer| {
-        table_calls::bridgenook_table_build(
-            valid,
-            list.as_slice(),
-            region.as_mut_slice(),
-            spare.as_mut_slice(),
-            answer,
-        )
-    })?;
-    answered
+    let mut answer = UNWRITTEN;
+    let result = table_calls::bridgenook_table_build(
+        valid,
+        list.as_slice(),
+        region.as_mut_slice(),
+        spare.as_mut_slice(),
+        &mut answer,
+    );
+    case.answered(result, &answer)?
         .compare(region.as_slice())?
         .compare(spare.as_slice())?
         .verdict()
@@ -131,16 +129,19 @@ fn list<F: Fn(u8, u8, u32, &[u32], &[u32], &mut [u32], &mut [u64; 8]) -> u32>(
     let table = Table::read(&mut case)?;
     let mut out = List::<u32, SLOTS>::new();
     case.list(&mut out)?;
-    let answered = case.make(|answer| call(
+    let mut answer = UNWRITTEN;
+    let result = call(
         table.lg,
         table.valid,
         table.items,
         table.region.as_slice(),
         table.spare.as_slice(),
         out.as_mut_slice(),
-        answer,
-    ))?;
-    answered.compare(out.as_slice())?.verdict()
+        &mut answer,
+    );
+    case.answered(result, &answer)?
+        .compare(out.as_slice())?
+        .verdict()
 }
 
 // `None`: its call is none of these.

@@ -3,7 +3,7 @@
 #![tactic(auto)]
 
 use bridgenook::union_calls;
-use stored_cases::cases::Case;
+use stored_cases::cases::{Case, UNWRITTEN};
 use stored_cases::lists::List;
 use stored_cases::verdicts::Outcome;
 
@@ -16,12 +16,9 @@ fn count(mut case: Case<'_>) -> Outcome {
     let lg = case.number()?;
     let mut matrix = List::<u64, ROWS>::new();
     case.matrix(&mut matrix)?;
-    let answered = case.make(|answer| union_calls::bridgenook_count(
-        lg,
-        matrix.as_slice(),
-        answer,
-    ))?;
-    answered.verdict()
+    let mut answer = UNWRITTEN;
+    let result = union_calls::bridgenook_count(lg, matrix.as_slice(), &mut answer);
+    case.answered(result, &answer)?.verdict()
 }
 
 fn split(mut case: Case<'_>) -> Outcome {
@@ -32,16 +29,15 @@ fn split(mut case: Case<'_>) -> Outcome {
     case.list(&mut window)?;
     let mut pairs = List::<u32, PAIRS>::new();
     case.list(&mut pairs)?;
-    let answered = case.make(|answer| {
-        union_calls::bridgenook_split(
-            lg,
-            matrix.as_slice(),
-            window.as_mut_slice(),
-            pairs.as_mut_slice(),
-            answer,
-        )
-    })?;
-    answered
+    let mut answer = UNWRITTEN;
+    let result = union_calls::bridgenook_split(
+        lg,
+        matrix.as_slice(),
+        window.as_mut_slice(),
+        pairs.as_mut_slice(),
+        &mut answer,
+    );
+    case.answered(result, &answer)?
         .compare(window.as_slice())?
         .compare(pairs.as_slice())?
         .verdict()
@@ -56,17 +52,18 @@ fn expand(mut case: Case<'_>) -> Outcome {
     case.list(&mut pairs)?;
     let mut matrix = List::<u64, ROWS>::new();
     case.matrix(&mut matrix)?;
-    let answered = case.make(|answer| {
-        union_calls::bridgenook_expand(
-            lg,
-            coupons,
-            window.as_slice(),
-            pairs.as_slice(),
-            matrix.as_mut_slice(),
-            answer,
-        )
-    })?;
-    answered.compare(matrix.as_slice())?.verdict()
+    let mut answer = UNWRITTEN;
+    let result = union_calls::bridgenook_expand(
+        lg,
+        coupons,
+        window.as_slice(),
+        pairs.as_slice(),
+        matrix.as_mut_slice(),
+        &mut answer,
+    );
+    case.answered(result, &answer)?
+        .compare(matrix.as_slice())?
+        .verdict()
 }
 
 fn new_union(mut case: Case<'_>) -> Outcome {
@@ -74,10 +71,11 @@ fn new_union(mut case: Case<'_>) -> Outcome {
     let seed = case.number()?;
     let mut matrix = List::<u64, ROWS>::new();
     case.matrix(&mut matrix)?;
-    let answered = case.make(|answer| {
-        union_calls::bridgenook_new_union(lg, seed, matrix.as_mut_slice(), answer)
-    })?;
-    answered.compare(matrix.as_slice())?.verdict()
+    let mut answer = UNWRITTEN;
+    let result = union_calls::bridgenook_new_union(lg, seed, matrix.as_mut_slice(), &mut answer);
+    case.answered(result, &answer)?
+        .compare(matrix.as_slice())?
+        .verdict()
 }
 
 fn merge(mut case: Case<'_>) -> Outcome {
@@ -93,21 +91,22 @@ fn merge(mut case: Case<'_>) -> Outcome {
     case.list(&mut window)?;
     let mut pairs = List::<u32, PAIRS>::new();
     case.list(&mut pairs)?;
-    let answered = case.make(|answer| {
-        union_calls::bridgenook_merge(
-            lg,
-            present,
-            seed,
-            matrix.as_mut_slice(),
-            from,
-            other,
-            coupons,
-            window.as_slice(),
-            pairs.as_slice(),
-            answer,
-        )
-    })?;
-    answered.compare(matrix.as_slice())?.verdict()
+    let mut answer = UNWRITTEN;
+    let result = union_calls::bridgenook_merge(
+        lg,
+        present,
+        seed,
+        matrix.as_mut_slice(),
+        from,
+        other,
+        coupons,
+        window.as_slice(),
+        pairs.as_slice(),
+        &mut answer,
+    );
+    case.answered(result, &answer)?
+        .compare(matrix.as_slice())?
+        .verdict()
 }
 
 // `None`: its call is none of these.

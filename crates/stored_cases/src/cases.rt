@@ -14,7 +14,7 @@ use std::str::FromStr;
 pub const LONGEST: usize = 8192;
 
 // What `answer` holds before a call, so that a number left unwritten shows.
-const UNWRITTEN: [u64; 8] = [0xA5A5_A5A5_A5A5_A5A5; 8];
+pub const UNWRITTEN: [u64; 8] = [0xA5A5_A5A5_A5A5_A5A5; 8];
 
 #[derive(Clone, Copy)]
 pub struct Case<'a> {
@@ -69,8 +69,8 @@ fn compare_numbers(stored: &[u64; 9], res: u32, answer: &[u64; 8]) -> Verdict {
 }
 
 impl<'a> Case<'a> {
-    // What any line has of a case: a name, if an empty one, and what stands behind it. Whether it is a case shows as that is given out and compared. (Of a line that
-    // is not UTF-8 only the first word is read, for a case's words are ASCII.)
+    // Any line has a name, its first word, and behind that what the calls below give out: they find whether it is a case. (A line that is not UTF-8 is none, for a
+    // case is ASCII: of it there is the first word alone.)
     pub fn read(line: &'a [u8]) -> Case<'a>
         ensures { StartsWith line.now result.name.now }
     {
@@ -116,24 +116,17 @@ impl<'a> Case<'a> {
         rows.read(self.next_word()?)
     }
 
-    // Makes the call, once all inputs were given out, and compares what it answered.
-    pub fn make<F: FnOnce(&mut [u64; 8]) -> u32>(
-        mut self,
-        call: F,
-    ) -> Result<Answered<'a>, NoVerdict>
-        requires { F.IsAlwaysCallable call }
+    // Once all inputs were given out: compares what the call answered.
+    pub fn answered(mut self, res: u32, answer: &[u64; 8]) -> Result<Answered<'a>, NoVerdict>
         ensures { IfErr result (λ why. why ≡ NotACase) }
     {
         if self.next_word()? != "=" {
             return Err(NoVerdict::NotACase);
         }
-        let stored = self.rest.ok_or(NoVerdict::NotACase)?;
-        let mut answer = UNWRITTEN;
-        let result = call(&mut answer);
-        let (numbers, lists) = cut_at(stored, " ; ");
+        let (numbers, lists) = cut_at(self.rest.ok_or(NoVerdict::NotACase)?, " ; ");
         let stored = stored_numbers(numbers).ok_or(NoVerdict::NotACase)?;
         Ok(Answered {
-            so_far: compare_numbers(&stored, result, &answer),
+            so_far: compare_numbers(&stored, res, answer),
             lists,
         })
     }

@@ -1,5 +1,5 @@
 // Lists: items that commas part, read from left to right. `-` alone is the empty list.
-ghost use Rattle.std.specs.Prelude.{◌≡◌, ◌<◌, ◌≤◌, length, take, OnOk};
+ghost use Rattle.std.specs.Prelude.{◌≡◌, ◌+◌, ◌<◌, ◌≤◌, length, take, IfOk, OnOk};
 
 use super::cases::LONGEST;
 use super::items::Item;
@@ -47,35 +47,51 @@ impl<T: Default, const ROOM: usize> List<T, ROOM> {
     }
 }
 
+// As a place or a number of places.
+fn places(number: u64) -> Result<usize, NoVerdict>
+    ensures { IfOk result (λ places. places ≡ number) }
+{
+    usize::try_from(number).map_err(|_| NoVerdict::NotACase)
+}
+
 // What the items read so far make.
 impl<const ROOM: usize> List<u64, ROOM> {
-    fn push(&mut self, value: u64) -> Result<(), NoVerdict> {
-        if self.length >= ROOM {
+    // Where the list ends with so many numbers more.
+    fn end_with(&self, more: usize) -> Result<usize, NoVerdict>
+        ensures { IfOk result (λ end. (end ≡ self.now.length + more) × (end ≤ ROOM)) }
+    {
+        let end = self.length.checked_add(more).ok_or(NoVerdict::NotACase)?;
+        if end > ROOM {
             return Err(NoVerdict::NotACase);
         }
-        self.entries[self.length] = value;
-        self.length += 1;
-        Ok(())
+        Ok(end)
     }
 
     fn push_times(&mut self, value: u64, times: u64) -> Result<(), NoVerdict> {
-        for _ in 0..times {
-            self.push(value)?;
-        }
+        let end = self.end_with(places(times)?)?;
+        let room = &mut self.entries[..];
+        room[self.length..end].fill(value);
+        self.length = end;
         Ok(())
     }
 
     fn push_rising(&mut self, first: u64, times: u64) -> Result<(), NoVerdict> {
-        for done in 0..times {
-            self.push(first.checked_add(done).ok_or(NoVerdict::NotACase)?)?;
+        let end = self.end_with(places(times)?)?;
+        let room = &mut self.entries[..];
+        for (entry, done) in room[self.length..end].iter_mut().zip(0..times) {
+            *entry = first.checked_add(done).ok_or(NoVerdict::NotACase)?;
         }
+        self.length = end;
         Ok(())
     }
 
     fn push_all(&mut self, entries: &[u16]) -> Result<(), NoVerdict> {
-        for entry in entries {
-            self.push(u64::from(*entry))?;
+        let end = self.end_with(entries.len())?;
+        let room = &mut self.entries[..];
+        for (place, entry) in room[self.length..end].iter_mut().zip(entries) {
+            *place = u64::from(*entry);
         }
+        self.length = end;
         Ok(())
     }
 
@@ -99,7 +115,7 @@ impl<const ROOM: usize> List<u64, ROOM> {
         ensures end { OnOk result (self.new.length ≡ end) }
         ensures no_longer { OnOk result (self.new.length ≤ self.old.length) }
     {
-        let end = usize::try_from(end).map_err(|_| NoVerdict::NotACase)?;
+        let end = places(end)?;
         if end > self.length {
             return Err(NoVerdict::NotACase);
         }
@@ -111,7 +127,7 @@ impl<const ROOM: usize> List<u64, ROOM> {
         ensures inside { OnOk result (place < self.old.length) }
         ensures as_long { self.new.length ≡ self.old.length }
     {
-        let place = usize::try_from(place).map_err(|_| NoVerdict::NotACase)?;
+        let place = places(place)?;
         if place >= self.length {
             return Err(NoVerdict::NotACase);
         }
@@ -183,6 +199,12 @@ where
         length: 0,
     };
     wide.read(text)?;
-    let numbers = lent.iter().map(|entry| u64::from(*entry));
-    Ok(wide.as_slice().iter().copied().eq(numbers))
+    let list = wide.as_slice();
+    Ok(
+        list.len() == lent.len()
+            && list
+                .iter()
+                .zip(lent)
+                .all(|(number, entry)| *number == u64::from(*entry)),
+    )
 }

@@ -14,14 +14,12 @@ fn sevens(line: &[u8]) -> Outcome {
     case.list(&mut bytes)?;
     let mut rows = List::<u64, 4>::new();
     case.matrix(&mut rows)?;
-    case.make(|answer| {
-        *answer = [u64::from(number), 0, 0, 0, 0, 0, 0, 0];
-        bytes.as_mut_slice().fill(7);
-        0
-    })?
-    .compare(bytes.as_slice())?
-    .compare(rows.as_slice())?
-    .verdict()
+    bytes.as_mut_slice().fill(7);
+    let answer = [u64::from(number), 0, 0, 0, 0, 0, 0, 0];
+    case.answered(0, &answer)?
+        .compare(bytes.as_slice())?
+        .compare(rows.as_slice())?
+        .verdict()
 }
 
 #[test]
