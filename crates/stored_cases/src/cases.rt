@@ -33,12 +33,20 @@ pub struct Answered<'a> {
     lists: Option<&'a str>,
 }
 
-// What stands before the first `mark`, and what behind it, where there is one.
-fn cut_at<'a>(text: &'a str, mark: &str) -> (&'a str, Option<&'a str>)
+// The first word, and what stands behind the space after it, where there is one.
+fn cut_word(text: &str) -> (&str, Option<&str>)
     ensures { StartsWith text.now result.0.now }
 {
-    match text.split_once(mark) {
-        Some((before, behind)) => (before, Some(behind)),
+    match text.split_once(' ') {
+        Some((word, behind)) => (word, Some(behind)),
+        None => (text, None),
+    }
+}
+
+// What stands before the first ` ; `, and what behind it, where there is one.
+fn cut_part(text: &str) -> (&str, Option<&str>) {
+    match text.split_once(" ; ") {
+        Some((part, behind)) => (part, Some(behind)),
         None => (text, None),
     }
 }
@@ -53,7 +61,8 @@ fn first_word(line: &[u8]) -> &str
 
 // The stored numbers: three to nine, and 0 for those left out.
 fn stored_numbers(text: &str) -> Option<[u64; 9]> {
-    if !(3..=9).contains(&text.split(' ').count()) {
+    let spaces = text.bytes().filter(|byte| *byte == b' ').count();
+    if !(2..=8).contains(&spaces) {
         return None;
     }
     let mut stored = [0; 9];
@@ -75,7 +84,7 @@ impl<'a> Case<'a> {
         ensures { StartsWith line.now result.name.now }
     {
         let text = str::from_utf8(line).unwrap_or_else(|_| first_word(line));
-        let (name, rest) = cut_at(text, " ");
+        let (name, rest) = cut_word(text);
         Case { name, rest }
     }
 
@@ -83,7 +92,7 @@ impl<'a> Case<'a> {
         ensures { IfErr result (λ why. why ≡ NotACase) }
     {
         let rest = self.rest.ok_or(NoVerdict::NotACase)?;
-        let (word, others) = cut_at(rest, " ");
+        let (word, others) = cut_word(rest);
         self.rest = others;
         Ok(word)
     }
@@ -123,7 +132,7 @@ impl<'a> Case<'a> {
         if self.next_word()? != "=" {
             return Err(NoVerdict::NotACase);
         }
-        let (numbers, lists) = cut_at(self.rest.ok_or(NoVerdict::NotACase)?, " ; ");
+        let (numbers, lists) = cut_part(self.rest.ok_or(NoVerdict::NotACase)?);
         let stored = stored_numbers(numbers).ok_or(NoVerdict::NotACase)?;
         Ok(Answered {
             so_far: compare_numbers(&stored, res, answer),
@@ -140,7 +149,7 @@ impl<'a> Answered<'a> {
         ensures agrees { IfOk result (λ next. next.so_far ≡ Agrees → self.entry.so_far ≡ Agrees) }
         ensures no_case { IfErr result (λ why. why ≡ NotACase) }
     {
-        let (list, others) = cut_at(self.lists.ok_or(NoVerdict::NotACase)?, " ; ");
+        let (list, others) = cut_part(self.lists.ok_or(NoVerdict::NotACase)?);
         let agrees = is_list(list, lent)?;
         Ok(Answered {
             so_far: self.so_far.and(Verdict::from(agrees)),

@@ -45,9 +45,6 @@ fn put(text: &str) -> Option<Item> {
 }
 
 fn entries(text: &str) -> Option<Item> {
-    if let Some(value) = decimal(text) {
-        return Some(Item::Times { value, times: 1 });
-    }
     if let Some((value, times)) = halves(text, 'x') {
         return Some(Item::Times { value, times });
     }
@@ -56,6 +53,9 @@ fn entries(text: &str) -> Option<Item> {
 }
 
 fn read(text: &str) -> Option<Item> {
+    if let Some(value) = decimal(text) {
+        return Some(Item::Times { value, times: 1 });
+    }
     if let Some(length) = text.strip_prefix('/') {
         return cut(length);
     }

@@ -75,11 +75,15 @@ impl<const ROOM: usize> List<u64, ROOM> {
         Ok(())
     }
 
+    // None of them is 2^64 or more, if the last is not: so none wraps.
     fn push_rising(&mut self, first: u64, times: u64) -> Result<(), NoVerdict> {
         let end = self.end_with(places(times)?)?;
+        if first.checked_add(times.saturating_sub(1)).is_none() {
+            return Err(NoVerdict::NotACase);
+        }
         let room = &mut self.entries[..];
-        for (entry, done) in room[self.length..end].iter_mut().zip(0..times) {
-            *entry = first.checked_add(done).ok_or(NoVerdict::NotACase)?;
+        for (place, done) in room[self.length..end].iter_mut().zip(0..times) {
+            *place = first.wrapping_add(done);
         }
         self.length = end;
         Ok(())
@@ -95,7 +99,17 @@ impl<const ROOM: usize> List<u64, ROOM> {
         Ok(())
     }
 
-    // Not inlined, here and below: else the 8 KiB of a table are filled for every item.
+    // Not inlined, here and below: else a book's or table's array is filled for every item.
+    #[inline(never)]
+    fn push_pair_book(&mut self) -> Result<(), NoVerdict> {
+        self.push_all(&practice::pair_book())
+    }
+
+    #[inline(never)]
+    fn push_window_book(&mut self) -> Result<(), NoVerdict> {
+        self.push_all(&practice::window_book())
+    }
+
     #[inline(never)]
     fn push_pair_table(&mut self) -> Result<(), NoVerdict> {
         self.push_all(&practice::pair_table())
@@ -141,8 +155,8 @@ impl<const ROOM: usize> List<u64, ROOM> {
             Item::Rising { first, times } => self.push_rising(first, times),
             Item::Cut(end) => self.cut(end),
             Item::Put { place, value } => self.put(place, value),
-            Item::PairBook => self.push_all(&practice::pair_book()),
-            Item::WindowBook => self.push_all(&practice::window_book()),
+            Item::PairBook => self.push_pair_book(),
+            Item::WindowBook => self.push_window_book(),
             Item::PairTable => self.push_pair_table(),
             Item::WindowTable => self.push_window_table(),
         }
