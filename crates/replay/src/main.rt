@@ -3,6 +3,8 @@
 
 mod calls;
 mod files;
+#[cfg(test)]
+mod tests;
 
 use std::io;
 

@@ -8,7 +8,11 @@ use stored_cases::cases::Case;
 use stored_cases::verdicts::Outcome;
 
 // `None`: its call is none of these.
-pub fn run(line: &[u8]) -> Option<Outcome> {
-    let case = Case::read(line);
+pub fn run(case: Case<'_>) -> Option<Outcome> {
     book_calls::run(case).or_else(|| practice_calls::run(case))
+}
+
+// The same, of any line.
+pub fn run_line(line: &[u8]) -> Option<Outcome> {
+    run(Case::read(line))
 }

@@ -108,8 +108,7 @@ fn read_window(mut case: Case<'_>) -> Outcome {
 }
 
 // `None`: its call is none of these.
-pub fn run(line: &[u8]) -> Option<Outcome> {
-    let case = Case::read(line);
+pub fn run(case: Case<'_>) -> Option<Outcome> {
     let outcome = match case.name {
         "judge_pairs" => judge_pairs(case),
         "write_pairs" => write_pairs(case),
@@ -119,4 +118,9 @@ pub fn run(line: &[u8]) -> Option<Outcome> {
         _ => return None,
     };
     Some(outcome)
+}
+
+// The same, of any line.
+pub fn run_line(line: &[u8]) -> Option<Outcome> {
+    run(Case::read(line))
 }

@@ -145,8 +145,7 @@ fn list<F: Fn(u8, u8, u32, &[u32], &[u32], &mut [u32], &mut [u64; 8]) -> u32>(
 }
 
 // `None`: its call is none of these.
-pub fn run(line: &[u8]) -> Option<Outcome> {
-    let case = Case::read(line);
+pub fn run(case: Case<'_>) -> Option<Outcome> {
     let outcome = match case.name {
         "table_new" => new(case),
         "table_insert" => change(case, table_calls::bridgenook_table_insert),
@@ -158,4 +157,9 @@ pub fn run(line: &[u8]) -> Option<Outcome> {
         _ => return None,
     };
     Some(outcome)
+}
+
+// The same, of any line.
+pub fn run_line(line: &[u8]) -> Option<Outcome> {
+    run(Case::read(line))
 }

@@ -110,8 +110,7 @@ fn merge(mut case: Case<'_>) -> Outcome {
 }
 
 // `None`: its call is none of these.
-pub fn run(line: &[u8]) -> Option<Outcome> {
-    let case = Case::read(line);
+pub fn run(case: Case<'_>) -> Option<Outcome> {
     let outcome = match case.name {
         "count" => count(case),
         "split" => split(case),
@@ -121,4 +120,9 @@ pub fn run(line: &[u8]) -> Option<Outcome> {
         _ => return None,
     };
     Some(outcome)
+}
+
+// The same, of any line.
+pub fn run_line(line: &[u8]) -> Option<Outcome> {
+    run(Case::read(line))
 }
