@@ -65,3 +65,16 @@ fn runs_a_case_as_its_line(rt: HostRuntime) -> Result<(), Fail> {
     assert_eq!(rt; of_a_line(b"\xff"), [None; 5]);
     Ok(())
 }
+
+// Of a case whose first input was taken, what is left of it runs.
+#[test]
+fn runs_what_is_left_of_a_case(rt: HostRuntime) -> Result<(), Fail> {
+    let mut case = Case::read(b"rows 4 4 = 0 0 0 16");
+    assert_eq!(rt; replay_numbers::run(case), Some(Err(NoVerdict::NotACase)));
+    assert_eq!(rt; case.number::<u8>(), Ok(4));
+    assert_eq!(rt; replay_numbers::run(case), Some(Ok(Verdict::Agrees)));
+    let mut case = Case::read(b"rows = 4 = 0 0 0 16");
+    assert_eq!(rt; case.number::<u8>(), Err(NoVerdict::NotACase));
+    assert_eq!(rt; replay_numbers::run(case), Some(Err(NoVerdict::NotACase)));
+    Ok(())
+}

@@ -1,10 +1,10 @@
 // What a line has of a case: its inputs, given out in turn; and behind the call what is stored of its answer and of the memory that it was lent.
-ghost use Rattle.std.specs.Prelude.{◌≡◌, IfOk, IfErr};
+ghost use Rattle.std.specs.Prelude.{◌≡◌, ◌≤◌, length, IfOk, IfErr};
 ghost use Rattle.std.specs.Io.{StartsWith};
 ghost use Rattle.stored_cases.specs.declared.verdicts.NoVerdict.TheVariants.{NotACase};
 ghost use Rattle.stored_cases.specs.declared.verdicts.Verdict.TheVariants.{Agrees};
 
-use super::lists::{List, is_list};
+use super::lists::{List, is_list, read_into};
 use super::numbers::decimal;
 use super::verdicts::{NoVerdict, Outcome, Verdict};
 use std::str;
@@ -97,13 +97,26 @@ impl<'a> Case<'a> {
         Ok(word)
     }
 
+    // Behind the last input stands `=`: that is none, and it stays where it is.
+    fn next_input(&mut self) -> Result<&'a str, NoVerdict>
+        ensures { IfErr result (λ why. why ≡ NotACase) }
+    {
+        let before = *self;
+        let word = self.next_word()?;
+        if word == "=" {
+            *self = before;
+            return Err(NoVerdict::NotACase);
+        }
+        Ok(word)
+    }
+
     // The next input, a number.
     pub fn number<T: FromStr>(&mut self) -> Result<T, NoVerdict>
     where
         T::Err: Drop,
         ensures { IfErr result (λ why. why ≡ NotACase) }
     {
-        decimal(self.next_word()?).ok_or(NoVerdict::NotACase)
+        decimal(self.next_input()?).ok_or(NoVerdict::NotACase)
     }
 
     // The next input, a list: it becomes that, where it has room for it.
@@ -115,14 +128,22 @@ impl<'a> Case<'a> {
         T::Error: Drop,
         ensures { IfErr result (λ why. why ≡ NotACase) }
     {
-        list.read_as(self.next_word()?)
+        list.read_as(self.next_input()?)
     }
 
     // The next input, a matrix: as a list, but it has no more rows than there is room for while it is read, either.
     pub fn matrix<const MOST: usize>(&mut self, rows: &mut List<u64, MOST>) -> Result<(), NoVerdict>
         ensures { IfErr result (λ why. why ≡ NotACase) }
     {
-        rows.read(self.next_word()?)
+        rows.read(self.next_input()?)
+    }
+
+    // The same, into what is lent: how many rows it has. What stands behind them may have been written.
+    pub fn matrix_into(&mut self, rows: &mut [u64]) -> Result<usize, NoVerdict>
+        ensures room { IfOk result (λ count. count ≤ length rows.new) }
+        ensures no_case { IfErr result (λ why. why ≡ NotACase) }
+    {
+        read_into(self.next_input()?, rows)
     }
 
     // Once all inputs were given out: compares what the call answered.

@@ -54,14 +54,21 @@ fn places(number: u64) -> Result<usize, NoVerdict>
     usize::try_from(number).map_err(|_| NoVerdict::NotACase)
 }
 
-// What the items read so far make.
-impl<const ROOM: usize> List<u64, ROOM> {
+// What the items read so far make: the first entries of what is lent.
+#[derive(Drop)]
+struct Filling<'a> {
+    entries: &'a mut [u64],
+    filled: usize,
+    ghost within: { filled ≤ length entries.now },
+}
+
+impl Filling<'_> {
     // Where the list ends with so many numbers more.
     fn end_with(&self, more: usize) -> Result<usize, NoVerdict>
-        ensures { IfOk result (λ end. (end ≡ self.now.length + more) × (end ≤ ROOM)) }
+        ensures { IfOk result (λ end. (end ≡ self.now.filled + more) × (end ≤ length self.now.entries.now)) }
     {
-        let end = self.length.checked_add(more).ok_or(NoVerdict::NotACase)?;
-        if end > ROOM {
+        let end = self.filled.checked_add(more).ok_or(NoVerdict::NotACase)?;
+        if end > self.entries.len() {
             return Err(NoVerdict::NotACase);
         }
         Ok(end)
@@ -69,9 +76,8 @@ impl<const ROOM: usize> List<u64, ROOM> {
 
     fn push_times(&mut self, value: u64, times: u64) -> Result<(), NoVerdict> {
         let end = self.end_with(places(times)?)?;
-        let room = &mut self.entries[..];
-        room[self.length..end].fill(value);
-        self.length = end;
+        self.entries[self.filled..end].fill(value);
+        self.filled = end;
         Ok(())
     }
 
@@ -81,21 +87,19 @@ impl<const ROOM: usize> List<u64, ROOM> {
         if first.checked_add(times.saturating_sub(1)).is_none() {
             return Err(NoVerdict::NotACase);
         }
-        let room = &mut self.entries[..];
-        for (place, done) in room[self.length..end].iter_mut().zip(0..times) {
+        for (place, done) in self.entries[self.filled..end].iter_mut().zip(0..times) {
             *place = first.wrapping_add(done);
         }
-        self.length = end;
+        self.filled = end;
         Ok(())
     }
 
     fn push_all(&mut self, entries: &[u16]) -> Result<(), NoVerdict> {
         let end = self.end_with(entries.len())?;
-        let room = &mut self.entries[..];
-        for (place, entry) in room[self.length..end].iter_mut().zip(entries) {
+        for (place, entry) in self.entries[self.filled..end].iter_mut().zip(entries) {
             *place = u64::from(*entry);
         }
-        self.length = end;
+        self.filled = end;
         Ok(())
     }
 
@@ -126,23 +130,23 @@ impl<const ROOM: usize> List<u64, ROOM> {
     }
 
     fn cut(&mut self, end: u64) -> Result<(), NoVerdict>
-        ensures end { OnOk result (self.new.length ≡ end) }
-        ensures no_longer { OnOk result (self.new.length ≤ self.old.length) }
+        ensures end { OnOk result (self.new.filled ≡ end) }
+        ensures no_longer { OnOk result (self.new.filled ≤ self.old.filled) }
     {
         let end = places(end)?;
-        if end > self.length {
+        if end > self.filled {
             return Err(NoVerdict::NotACase);
         }
-        self.length = end;
+        self.filled = end;
         Ok(())
     }
 
     fn put(&mut self, place: u64, value: u64) -> Result<(), NoVerdict>
-        ensures inside { OnOk result (place < self.old.length) }
-        ensures as_long { self.new.length ≡ self.old.length }
+        ensures inside { OnOk result (place < self.old.filled) }
+        ensures as_long { self.new.filled ≡ self.old.filled }
     {
         let place = places(place)?;
-        if place >= self.length {
+        if place >= self.filled {
             return Err(NoVerdict::NotACase);
         }
         self.entries[place] = value;
@@ -162,14 +166,32 @@ impl<const ROOM: usize> List<u64, ROOM> {
         }
     }
 
-    // Becomes the list that `text` is. On the way, too, there are never more than so many numbers.
-    pub(crate) fn read(&mut self, text: &str) -> Result<(), NoVerdict> {
-        self.length = 0;
+    fn read(&mut self, text: &str) -> Result<(), NoVerdict> {
         if text != "-" {
             for item in text.split(',') {
                 self.take(item.parse()?)?;
             }
         }
+        Ok(())
+    }
+}
+
+// The list that `text` is, at the start of what is lent: how long it is. On the way, too, there are never more numbers than there is room for.
+pub(crate) fn read_into(text: &str, entries: &mut [u64]) -> Result<usize, NoVerdict>
+    ensures { IfOk result (λ end. end ≤ length entries.new) }
+{
+    let room = entries.len();
+    // `min`: it is not more, but what a method leaves of a lent slice is not said.
+    let mut filling = Filling { entries, filled: 0 };
+    filling.read(text)?;
+    Ok(filling.filled.min(room))
+}
+
+impl<const ROOM: usize> List<u64, ROOM> {
+    // Becomes the list that `text` is, or empty, where that is none or longer.
+    pub(crate) fn read(&mut self, text: &str) -> Result<(), NoVerdict> {
+        self.length = 0;
+        self.length = read_into(text, &mut self.entries[..])?;
         Ok(())
     }
 }

@@ -95,3 +95,34 @@ fn takes_the_longest_list(rt: HostRuntime) -> Result<(), Fail> {
     assert_eq!(rt; read.map(|()| list.as_slice().len()), Ok(8192));
     Ok(())
 }
+
+// Where no input is left, nothing that is stored is given out for one.
+#[test]
+fn ends_the_inputs_where_the_answer_begins(rt: HostRuntime) -> Result<(), Fail> {
+    let mut case = Case::read(b"sevens 7 = 0 7 0");
+    let none = Err(NoVerdict::NotACase);
+    assert_eq!(rt; case.number::<u8>(), Ok(7));
+    assert_eq!(rt; case.number::<u8>(), Err(NoVerdict::NotACase));
+    assert_eq!(rt; case.list(&mut List::<u8, 4>::new()), none);
+    assert_eq!(rt; case.matrix(&mut List::<u64, 4>::new()), none);
+    assert_eq!(rt; case.matrix_into(&mut [0; 4]), Err(NoVerdict::NotACase));
+    let answered = case.answered(0, &[7, 0, 0, 0, 0, 0, 0, 0]);
+    assert_eq!(rt;
+        answered.and_then(|answered| answered.verdict()),
+        Ok(Verdict::Agrees)
+    );
+    Ok(())
+}
+
+#[test]
+fn takes_a_matrix_into_lent_memory(rt: HostRuntime) -> Result<(), Fail> {
+    let line = b"- 3~2,9 1x5,/4 1x4,/2 7 = 0 0 0";
+    let mut case = Case::read(line);
+    let mut rows = [5; 4];
+    assert_eq!(rt; case.matrix_into(&mut rows), Ok(3));
+    assert_eq!(rt; rows, [3, 4, 9, 5]);
+    assert_eq!(rt; case.matrix_into(&mut rows), Err(NoVerdict::NotACase));
+    assert_eq!(rt; case.matrix_into(&mut rows), Ok(2));
+    assert_eq!(rt; case.matrix_into(&mut []), Err(NoVerdict::NotACase));
+    Ok(())
+}
