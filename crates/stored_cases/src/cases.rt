@@ -10,7 +10,7 @@ use super::verdicts::{NoVerdict, Outcome, Verdict};
 use std::str;
 use std::str::FromStr;
 
-// The most numbers that a list holds while it is read.
+// The most numbers that a list holds while it is read (a matrix: as many as there is room for).
 pub const LONGEST: usize = 8192;
 
 // What `answer` holds before a call, so that a number left unwritten shows.
@@ -89,7 +89,8 @@ impl<'a> Case<'a> {
     }
 
     fn next_word(&mut self) -> Result<&'a str, NoVerdict>
-        ensures { IfErr result (λ why. why ≡ NotACase) }
+        ensures no_case { IfErr result (λ why. why ≡ NotACase) }
+        ensures stays { IfErr result (λ _. self.new ≡ self.old) }
     {
         let rest = self.rest.ok_or(NoVerdict::NotACase)?;
         let (word, others) = cut_word(rest);
@@ -99,7 +100,8 @@ impl<'a> Case<'a> {
 
     // Behind the last input stands `=`: that is none, and it stays where it is.
     fn next_input(&mut self) -> Result<&'a str, NoVerdict>
-        ensures { IfErr result (λ why. why ≡ NotACase) }
+        ensures no_case { IfErr result (λ why. why ≡ NotACase) }
+        ensures stays { IfErr result (λ _. self.new ≡ self.old) }
     {
         let before = *self;
         let word = self.next_word()?;
@@ -138,7 +140,7 @@ impl<'a> Case<'a> {
         rows.read(self.next_input()?)
     }
 
-    // The same, into what is lent: how many rows it has. What stands behind them may have been written.
+    // The same, into what is lent: how many rows it has. What stands behind them may have been written, and anything where it is refused.
     pub fn matrix_into(&mut self, rows: &mut [u64]) -> Result<usize, NoVerdict>
         ensures room { IfOk result (λ count. count ≤ length rows.new) }
         ensures no_case { IfErr result (λ why. why ≡ NotACase) }

@@ -181,14 +181,14 @@ pub(crate) fn read_into(text: &str, entries: &mut [u64]) -> Result<usize, NoVerd
     ensures { IfOk result (λ end. end ≤ length entries.new) }
 {
     let room = entries.len();
-    // `min`: it is not more, but what a method leaves of a lent slice is not said.
+    // `filled` is at most `room`. But no clause says that a method leaves this very slice in `filling`, so the answer is cut to `room`.
     let mut filling = Filling { entries, filled: 0 };
     filling.read(text)?;
     Ok(filling.filled.min(room))
 }
 
 impl<const ROOM: usize> List<u64, ROOM> {
-    // Becomes the list that `text` is, or empty, where that is none or longer.
+    // Becomes the list that `text` is, or empty, where that is none, or is longer, be it only on the way.
     pub(crate) fn read(&mut self, text: &str) -> Result<(), NoVerdict> {
         self.length = 0;
         self.length = read_into(text, &mut self.entries[..])?;
@@ -216,12 +216,9 @@ where
 
     // Becomes the list that `text` is, where it is at most so long and each number fits. On the way it may be longer.
     pub(crate) fn read_as(&mut self, text: &str) -> Result<(), NoVerdict> {
-        let mut wide = List {
-            entries: [0; LONGEST],
-            length: 0,
-        };
-        wide.read(text)?;
-        self.narrow(wide.as_slice())
+        let mut wide = [0; LONGEST];
+        let end = read_into(text, &mut wide)?;
+        self.narrow(&wide[..end])
     }
 }
 
@@ -230,12 +227,9 @@ pub(crate) fn is_list<T: Copy>(text: &str, lent: &[T]) -> Result<bool, NoVerdict
 where
     u64: From<T>,
 {
-    let mut wide = List {
-        entries: [0; LONGEST],
-        length: 0,
-    };
-    wide.read(text)?;
-    let list = wide.as_slice();
+    let mut wide = [0; LONGEST];
+    let end = read_into(text, &mut wide)?;
+    let list = &wide[..end];
     Ok(
         list.len() == lent.len()
             && list
