@@ -1,4 +1,6 @@
 // The calls of bridgenook's module book_calls.
+ghost use Rattle.std.specs.Prelude.{◌≡◌, ◌≢◌, ◌↔◌, None, codes};
+
 use bridgenook::book_calls;
 use stored_cases::cases::{Case, LONGEST, UNWRITTEN};
 use stored_cases::lists::List;
@@ -50,7 +52,9 @@ fn pick(mut case: Case<'_>) -> Outcome {
         .verdict()
 }
 
-pub fn run(case: Case<'_>) -> Option<Outcome> {
+pub fn run(case: Case<'_>) -> Option<Outcome>
+    ensures { (result ≡ None) ↔ ((case.entry.name.now ≢ codes "check_book") × (case.entry.name.now ≢ codes "check_table") × (case.entry.name.now ≢ codes "fill_table") × (case.entry.name.now ≢ codes "pick")) }
+{
     let outcome = match case.name {
         "check_book" => check_book(case),
         "check_table" => check_table(case),

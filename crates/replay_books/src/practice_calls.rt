@@ -1,4 +1,6 @@
 // The calls of bridgenook's module practice_books.
+ghost use Rattle.std.specs.Prelude.{◌≡◌, ◌≢◌, ◌↔◌, None, codes};
+
 use bridgenook::practice_books;
 use stored_cases::cases::{Case, LONGEST, UNWRITTEN};
 use stored_cases::lists::List;
@@ -17,7 +19,9 @@ fn copy<F: Fn(&mut [u16], &mut [u64; 8]) -> u32>(mut case: Case<'_>, call: F) ->
         .verdict()
 }
 
-pub fn run(case: Case<'_>) -> Option<Outcome> {
+pub fn run(case: Case<'_>) -> Option<Outcome>
+    ensures { (result ≡ None) ↔ ((case.entry.name.now ≢ codes "practice_pair_book") × (case.entry.name.now ≢ codes "practice_window_book") × (case.entry.name.now ≢ codes "practice_pair_table")) }
+{
     let outcome = match case.name {
         "practice_pair_book" => copy(case, practice_books::bridgenook_practice_pair_book),
         "practice_window_book" => copy(case, practice_books::bridgenook_practice_window_book),

@@ -1,4 +1,6 @@
 // The calls of bridgenook's module number_calls.
+ghost use Rattle.std.specs.Prelude.{◌≡◌, ◌≢◌, ◌↔◌, None, codes};
+
 use bridgenook::number_calls;
 use stored_cases::cases::{Case, UNWRITTEN};
 use stored_cases::verdicts::Outcome;
@@ -21,7 +23,9 @@ fn on_count<F: Fn(u8, u32, &mut [u64; 8]) -> u32>(mut case: Case<'_>, call: F) -
     case.answered(result, &answer)?.verdict()
 }
 
-pub fn run(case: Case<'_>) -> Option<Outcome> {
+pub fn run(case: Case<'_>) -> Option<Outcome>
+    ensures { (result ≡ None) ↔ ((case.entry.name.now ≢ codes "rows") × (case.entry.name.now ≢ codes "determine_flavor") × (case.entry.name.now ≢ codes "determine_correct_offset") × (case.entry.name.now ≢ codes "determine_pseudo_phase") × (case.entry.name.now ≢ codes "number_of_base_bits") × (case.entry.name.now ≢ codes "most_bits")) }
+{
     let outcome = match case.name {
         "rows" => rows(case),
         "determine_flavor" => on_count(case, number_calls::bridgenook_determine_flavor),

@@ -1,4 +1,6 @@
 // The calls of bridgenook's module unit_counts.
+ghost use Rattle.std.specs.Prelude.{◌≡◌, ◌≢◌, ◌↔◌, None, codes};
+
 use bridgenook::unit_counts;
 use stored_cases::cases::{Case, UNWRITTEN};
 use stored_cases::verdicts::Outcome;
@@ -13,7 +15,9 @@ fn convert<F: Fn(u64, &mut [u64; 8]) -> u32>(mut case: Case<'_>, call: F) -> Out
     case.answered(result, &answer)?.verdict()
 }
 
-pub fn run(case: Case<'_>) -> Option<Outcome> {
+pub fn run(case: Case<'_>) -> Option<Outcome>
+    ensures { (result ≡ None) ↔ ((case.entry.name.now ≢ codes "words_for") × (case.entry.name.now ≢ codes "bits_in")) }
+{
     let outcome = match case.name {
         "words_for" => convert(case, unit_counts::bridgenook_words_for),
         "bits_in" => convert(case, unit_counts::bridgenook_bits_in),

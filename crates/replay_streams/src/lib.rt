@@ -1,6 +1,8 @@
 // Stored cases of bridgenook's module stream_calls.
 #![tactic(auto)]
 
+ghost use Rattle.std.specs.Prelude.{◌≡◌, ◌≢◌, ◌↔◌, None, codes};
+
 use bridgenook::stream_calls;
 use stored_cases::cases::{Case, LONGEST, UNWRITTEN};
 use stored_cases::lists::List;
@@ -108,7 +110,9 @@ fn read_window(mut case: Case<'_>) -> Outcome {
 }
 
 // `None`: its call is none of these.
-pub fn run(case: Case<'_>) -> Option<Outcome> {
+pub fn run(case: Case<'_>) -> Option<Outcome>
+    ensures { (result ≡ None) ↔ ((case.entry.name.now ≢ codes "judge_pairs") × (case.entry.name.now ≢ codes "write_pairs") × (case.entry.name.now ≢ codes "write_window") × (case.entry.name.now ≢ codes "read_pairs") × (case.entry.name.now ≢ codes "read_window")) }
+{
     let outcome = match case.name {
         "judge_pairs" => judge_pairs(case),
         "write_pairs" => write_pairs(case),

@@ -1,6 +1,8 @@
 // Stored cases of bridgenook's module table_calls. A table is written as its lg, valid bits and items, then its region and its spare.
 #![tactic(auto)]
 
+ghost use Rattle.std.specs.Prelude.{◌≡◌, ◌≢◌, ◌↔◌, None, codes};
+
 use bridgenook::table_calls;
 use stored_cases::cases::{Case, UNWRITTEN};
 use stored_cases::lists::List;
@@ -145,7 +147,9 @@ fn list<F: Fn(u8, u8, u32, &[u32], &[u32], &mut [u32], &mut [u64; 8]) -> u32>(
 }
 
 // `None`: its call is none of these.
-pub fn run(case: Case<'_>) -> Option<Outcome> {
+pub fn run(case: Case<'_>) -> Option<Outcome>
+    ensures { (result ≡ None) ↔ ((case.entry.name.now ≢ codes "table_new") × (case.entry.name.now ≢ codes "table_insert") × (case.entry.name.now ≢ codes "table_delete") × (case.entry.name.now ≢ codes "table_clear") × (case.entry.name.now ≢ codes "table_build") × (case.entry.name.now ≢ codes "table_extract") × (case.entry.name.now ≢ codes "table_walk")) }
+{
     let outcome = match case.name {
         "table_new" => new(case),
         "table_insert" => change(case, table_calls::bridgenook_table_insert),

@@ -2,6 +2,8 @@
 // its window and its pairs.
 #![tactic(auto)]
 
+ghost use Rattle.std.specs.Prelude.{◌≡◌, ◌≢◌, ◌↔◌, None, codes};
+
 use bridgenook::union_calls;
 use stored_cases::cases::{Case, UNWRITTEN};
 use stored_cases::lists::List;
@@ -110,7 +112,9 @@ fn merge(mut case: Case<'_>) -> Outcome {
 }
 
 // `None`: its call is none of these.
-pub fn run(case: Case<'_>) -> Option<Outcome> {
+pub fn run(case: Case<'_>) -> Option<Outcome>
+    ensures { (result ≡ None) ↔ ((case.entry.name.now ≢ codes "count") × (case.entry.name.now ≢ codes "split") × (case.entry.name.now ≢ codes "expand") × (case.entry.name.now ≢ codes "new_union") × (case.entry.name.now ≢ codes "merge")) }
+{
     let outcome = match case.name {
         "count" => count(case),
         "split" => split(case),

@@ -1,5 +1,5 @@
 // What a line has of a case: its inputs, given out in turn; and behind the call what is stored of its answer and of the memory that it was lent.
-ghost use Rattle.std.specs.Prelude.{◌≡◌, ◌≤◌, length, IfOk, IfErr};
+ghost use Rattle.std.specs.Prelude.{◌≡◌, ◌≢◌, ◌≤◌, codes, length, IfOk, IfErr};
 ghost use Rattle.std.specs.Io.{StartsWith};
 ghost use Rattle.stored_cases.specs.declared.verdicts.NoVerdict.TheVariants.{NotACase};
 ghost use Rattle.stored_cases.specs.declared.verdicts.Verdict.TheVariants.{Agrees};
@@ -100,6 +100,7 @@ impl<'a> Case<'a> {
 
     // Behind the last input stands `=`: that is none, and it stays where it is.
     fn next_input(&mut self) -> Result<&'a str, NoVerdict>
+        ensures input { IfOk result (λ word. word.now ≢ codes "=") }
         ensures no_case { IfErr result (λ why. why ≡ NotACase) }
         ensures stays { IfErr result (λ _. self.new ≡ self.old) }
     {
